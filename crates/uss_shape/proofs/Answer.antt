@@ -46,9 +46,8 @@ straddle_tells s t = or_tells _ _ (and_tells _ _ (le_is s (pos 0)) (le_is (pos 0
 edges_tell : (e f : Edge) → IsTrue (edges_touch e f) ↔ Common e f
 edges_tell e f =
     let k = and_tells _ _
-        (and_tells _ _ (ranges_tell e.from.x e.to.x f.from.x f.to.x) (ranges_tell e.from.y e.to.y f.from.y f.to.y))
-        (and_tells _ _ (straddle_tells (cross e.from e.to f.from) (cross e.from e.to f.to)) (straddle_tells (cross f.from f.to e.from) (cross f.from f.to e.to))) in
-    (
+    (and_tells _ _ (ranges_tell e.from.x e.to.x f.from.x f.to.x) (ranges_tell e.from.y e.to.y f.from.y f.to.y))
+    (and_tells _ _ (straddle_tells (cross e.from e.to f.from) (cross e.from e.to f.to)) (straddle_tells (cross f.from f.to e.from) (cross f.from f.to e.to))) in (
       λ h. let r = k.0 h in
           common_of_touches e.from e.to f.from f.to (record { across = (r.0.0.1, r.0.0.0); upward = (r.0.1.1, r.0.1.0); ends = r.1.0; ends' = r.1.1 }),
       λ c. let t = touches_of_common e.from e.to f.from f.to c in
@@ -87,7 +86,7 @@ unfolding outlines_meet
 found_tells us vs =
     or_tells _ _
     (some_tells (λ e. list_any (edges_touch e) (edges vs)) (λ e. SomeEdge (Common e) (edges vs)) (λ e. some_tells (edges_touch e) (Common e) (edges_tell e) (edges vs)) (edges us))
-    (or_tells _ _ (first_tells vs us) (first_tells us vs) )
+    (or_tells _ _ (first_tells vs us) (first_tells us vs))
 
 -- the test answers whether a place is in the region
 pub region_holds_tells : (vs : List Place) (p : Place) → IsTrue (region_holds vs p) ↔ InRegion vs p
