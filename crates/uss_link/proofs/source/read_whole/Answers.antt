@@ -1,0 +1,20 @@
+use Rattle.std.proofs.Common.{◌≡◌, arith, length}
+use Rattle.uss_link.proofs.Loops.{gave_more, gave_all, gave_some, room_stays}
+use Rattle.uss_link.proofs.source.read_whole.Goals as goal
+
+pub returns-then-count-eq0-clause-whole : goal.returns-then-count-eq0-clause-whole
+returns-then-count-eq0-clause-whole g c left is = (gave_all _ _ _ _ _ _ c.loop-bytes.invariant.3 (record { told = c.in_ok-count.ensures.told }) c.if-count-eq0.true left is).bytes
+
+pub returns-then-count-eq0-clause-ended : goal.returns-then-count-eq0-clause-ended
+returns-then-count-eq0-clause-ended g c left is = (gave_all _ _ _ _ _ _ c.loop-bytes.invariant.3 (record { told = c.in_ok-count.ensures.told }) c.if-count-eq0.true left is).none
+
+pub returns-then-len-limit-clause-too_large : goal.returns-then-len-limit-clause-too_large
+returns-then-len-limit-clause-too_large g c left is _ = gave_some _ _ _ _ (gave_more _ _ _ _ _ _ c.loop-bytes.invariant.3 (record { told = c.in_ok-count.ensures.told })) (omega arith) left is
+
+pub loop-bytes-preserved : goal.loop-bytes-preserved
+loop-bytes-preserved g c = (
+  omega arith,
+  room_stays _ _ _ (c.loop-bytes.piece.ok.0) (let h : length c.read_on.new.piece ≡ c.loop-bytes.piece.len = omega (arith, c.read_on.auto.piece, c.as_mut_slice.ensures.len, c.as_mut_slice.ensures.value, c.loop-bytes.piece.ok.0) in h) c.loop-bytes.invariant.1,
+  omega (arith, c.in_ok-count.ensures.kept),
+  gave_more _ _ _ _ _ _ c.loop-bytes.invariant.3 (record { told = c.in_ok-count.ensures.told }),
+)

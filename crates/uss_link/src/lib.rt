@@ -1,0 +1,14 @@
+//! The outside of the program, seen by contracts: where bytes come from and where they go. Each object
+//! counts its faults, and a call answers a fault only where that count rose. What an object holds is told
+//! by the forms in memory, and not by the adapters over real streams, of which no contract can know it.
+#![tactic(auto)]
+
+mod adapters;
+mod memory;
+mod sink;
+mod source;
+
+pub use adapters::{ReaderSource, WriterSink};
+pub use memory::{MemorySink, MemorySource};
+pub use sink::{Sink, WriteFault, write_all};
+pub use source::{ReadFault, ReadWholeRefusal, Source, read_whole};

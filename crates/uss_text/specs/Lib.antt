@@ -1,0 +1,6 @@
+pub mod Lines
+pub mod Numbers
+pub mod Refusals
+pub mod Reading
+pub mod Volumes
+pub mod Conflict

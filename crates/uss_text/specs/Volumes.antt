@@ -1,0 +1,104 @@
+-- The volumes of a script: `rect X1 Y1 X2 Y2` or `poly N X1 Y1 .. XN YN`, then `LOW HIGH START END`. Numbers are
+-- 1e-7 degrees, millimetres and nanoseconds since 1970. The refusals of the outline, and then of the volume, come
+-- after the last word of the volume. This project's own.
+use Rattle.std.specs.Prelude.{ℕ, zero, suc, List, [], ◌∷◌, Bool, not, Result, Ok, Err, ℤ, pos, neg_ℤ, nat_lt, int_lt, int_le, ◌&&◌, length, bytes_eq, codes, if◌then◌else◌}
+use Rattle.std.specs.List.{list_all}
+use Rattle.uss_shape.specs.declared.Place.{Place}
+use Rattle.uss_shape.specs.Shape.{corners}
+use Rattle.uss_vol4.specs.Volume.{Volume4D}
+use Rattle.uss_shape.specs.declared.ShapeRefusal.{ShapeRefusal}
+use Rattle.uss_shape.specs.declared.ShapeRefusal.TheVariants as Shape
+use Rattle.uss_vol4.specs.declared.VolRefusal.{VolRefusal}
+use Rattle.uss_vol4.specs.declared.VolRefusal.TheVariants as Vol
+use Rattle.uss_text.specs.declared.refusal.WordRefusal.{WordRefusal}
+use Rattle.uss_text.specs.declared.refusal.WordRefusal.TheVariants.{BadLine, TooFewVertices, TooManyVertices, OutOfRange, LowAboveHigh, StartAfterEnd, AltitudeRange, TimeRange, Memory}
+use Rattle.uss_text.specs.Reading.{◌>>=◌, read, Reader, word_at, integer_at, count_at}
+
+-- the two coordinates of a place
+unfoldable pub place_at : Reader Place
+place_at ws = do
+  x ← integer_at ws
+  y ← integer_at x.rest
+  Ok (read (record { x = x.value; y = y.value }) y.rest)
+
+-- so many places
+unfoldable pub places_at : ℕ → Reader (List Place)
+places_at zero ws = Ok (read [] ws)
+places_at (suc n) ws = do
+  first ← place_at ws
+  others ← places_at n first.rest
+  Ok (read (first.value ∷ others.value) others.rest)
+
+unfoldable pub poly_at : Reader (List Place)
+poly_at ws = do
+  count ← count_at ws
+  places_at count.value count.rest
+
+unfoldable pub rect_at : Reader (List Place)
+rect_at ws = do
+  first ← place_at ws
+  second ← place_at first.rest
+  Ok (read (corners (record { x1 = first.value.x; y1 = first.value.y; x2 = second.value.x; y2 = second.value.y })) second.rest)
+
+-- the vertices of the outline, by the word for its kind
+abbrev pub vertices_of : List ℕ → Reader (List Place)
+vertices_of kind ws = if bytes_eq kind (codes "rect") then rect_at ws
+    else (if bytes_eq kind (codes "poly") then poly_at ws else Err BadLine)
+
+unfoldable pub vertices_at : Reader (List Place)
+vertices_at ws = do
+  kind ← word_at ws
+  vertices_of kind.value kind.rest
+
+-- the refusals of an outline and of a volume, as those of the word behind which they come
+abbrev pub outline_refusal : ShapeRefusal → WordRefusal
+outline_refusal Shape.TooFewVertices = TooFewVertices
+outline_refusal Shape.TooManyVertices = TooManyVertices
+outline_refusal (Shape.OutOfRange i) = OutOfRange
+outline_refusal Shape.Memory = Memory
+
+abbrev pub volume_refusal : VolRefusal → WordRefusal
+volume_refusal Vol.LowAboveHigh = LowAboveHigh
+volume_refusal Vol.StartAfterEnd = StartAfterEnd
+volume_refusal Vol.AltitudeRange = AltitudeRange
+volume_refusal Vol.TimeRange = TimeRange
+volume_refusal Vol.Memory = Memory
+
+-- the first refusal whose test holds, if one does
+abbrev pub first_refused : {A : Type 0} → List (Bool × WordRefusal) → A → Result A WordRefusal
+first_refused [] x = Ok x
+first_refused (test ∷ tests) x = if test.0 then Err test.1 else first_refused tests x
+
+abbrev pub is_in_plane : Place → Bool
+is_in_plane p = int_le (neg_ℤ (pos 1800000000)) p.x && int_le p.x (pos 1800000000) && int_le (neg_ℤ (pos 900000000)) p.y && int_le p.y (pos 900000000)
+
+-- 1 km below to 100 km above the datum
+abbrev pub is_altitude : ℤ → Bool
+is_altitude z = int_le (neg_ℤ (pos 1000000)) z && int_le z (pos 100000000)
+
+-- 2000-01-01 to 2200-01-01
+abbrev pub is_instant : ℤ → Bool
+is_instant z = int_le (pos 946684800000000000) z && int_le z (pos 7258118400000000000)
+
+-- the refusals of an outline and then of a volume, in their order
+unfoldable pub volume_of : List Place → (low high start end : ℤ) → Result Volume4D WordRefusal
+volume_of places low high start end = first_refused
+    ((nat_lt (length places) 3, TooFewVertices)
+    ∷ (nat_lt 1000 (length places), TooManyVertices)
+    ∷ (not (list_all is_in_plane places), OutOfRange)
+    ∷ (int_lt high low, LowAboveHigh)
+    ∷ (int_lt end start, StartAfterEnd)
+    ∷ (not (is_altitude low && is_altitude high), AltitudeRange)
+    ∷ (not (is_instant start && is_instant end), TimeRange)
+    ∷ [])
+    (record { outline = places; low = low; high = high; start = start; end = end })
+
+unfoldable pub volume_at : Reader Volume4D
+volume_at ws = do
+  outline ← vertices_at ws
+  low ← integer_at outline.rest
+  high ← integer_at low.rest
+  start ← integer_at high.rest
+  end ← integer_at start.rest
+  volume ← volume_of outline.value low.value high.value start.value end.value
+  Ok (read volume end.rest)

@@ -1,0 +1,104 @@
+ghost use Rattle.std.specs.Prelude.{◌≡◌, ◌<◌, ◌^◌, length, OnOk, IfErr};
+ghost use Rattle.uss_text.specs.Reading.{Gives, LineGives};
+ghost use Rattle.uss_text.specs.Conflict as spec;
+
+use crate::lines::Lines;
+use crate::refusal::{ScriptRefusal, WordRefusal};
+use crate::volumes::volume;
+use crate::words::Words;
+use std::alloc::Global;
+use uss_vol4::Volume4;
+
+/// The list that a line adds to.
+#[derive(Clone, Copy, Debug, PartialEq, Eq)]
+enum Side {
+    A,
+    B,
+}
+
+/// The two lists of volumes that `uss conflict` compares, each in the order of its lines.
+#[derive(Drop)]
+pub struct ConflictScript {
+    pub a: Vec<Volume4>,
+    pub b: Vec<Volume4>,
+}
+
+impl ConflictScript {
+    /// Adds a volume to its list.
+    fn add(&mut self, placed: Placed) -> Result<(), ScriptRefusal>
+        ensures ok { OnOk result (spec.lists self.new.a.items self.new.b.items ≡ spec.with_last (spec.lists self.old.a.items self.old.b.items) placed) }
+        ensures memory { IfErr result (λ e. e ≡ ScriptRefusal.Memory) }
+    {
+        match placed.side {
+            Side::A => self.a.push(placed.volume)?,
+            Side::B => self.b.push(placed.volume)?,
+        }
+        Ok(())
+    }
+}
+
+/// The most bytes of a script: 64 MiB.
+const MOST: usize = 67_108_864;
+
+/// The list that the line adds to.
+#[tactic(auto, unfolding(crate::specs::Conflict::side_at))]
+fn read_side(words: &mut Words) -> Result<Side, WordRefusal>
+    ensures { Gives result words.new (spec.side_at words.old) }
+{
+    let word = words.word()?;
+    if word == b"a".as_slice() {
+        return Ok(Side::A);
+    }
+    if word == b"b".as_slice() {
+        return Ok(Side::B);
+    }
+    Err(WordRefusal::BadLine)
+}
+
+/// A volume and the list that it is added to.
+#[derive(Drop)]
+struct Placed {
+    side: Side,
+    volume: Volume4,
+}
+
+#[tactic(auto, unfolding(crate::specs::Conflict::conflict_line))]
+fn read_line(alloc: Global, line: &[u8]) -> Result<Placed, WordRefusal>
+    ensures { LineGives result (spec.conflict_line line.now) }
+{
+    let mut words = Words::of(line);
+    let side = read_side(&mut words)?;
+    let volume = volume(alloc, &mut words)?;
+    words.end()?;
+    Ok(Placed { side, volume })
+}
+
+/// Reads the script of `uss conflict`: each line is `a VOLUME` or `b VOLUME`. A text of more than 64 MiB is
+/// refused first, and else the first refused line decides, and in it the first refused word.
+pub fn read_conflict(alloc: Global, text: &[u8]) -> Result<ConflictScript, ScriptRefusal>
+    ensures { spec.ScriptGives (λ s. spec.lists s.a.items s.b.items) result (spec.conflict_script text.now) }
+{
+    if text.len() > MOST {
+        return Err(ScriptRefusal::TextTooLarge);
+    }
+    read_lines(alloc, Lines::of(text))
+}
+
+fn read_lines(alloc: Global, mut lines: Lines) -> Result<ConflictScript, ScriptRefusal>
+    requires { length lines < 2 ^ 64 }
+    ensures { spec.ScriptGives (λ s. spec.lists s.a.items s.b.items) result (spec.lists_behind 0 lines.entry) }
+{
+    let mut script = ConflictScript {
+        a: Vec::new(alloc),
+        b: Vec::new(alloc),
+    };
+    let mut number = 0u64;
+    while let Some(line) = lines.next_line() {
+        number += 1;
+        match read_line(alloc, line) {
+            Ok(placed) => script.add(placed)?,
+            Err(refusal) => return Err(refusal.at_line(number)),
+        }
+    }
+    Ok(script)
+}

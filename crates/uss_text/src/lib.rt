@@ -1,0 +1,13 @@
+//! Scripts: the text of the commands' input, line by line and word by word. What a text says is a definition
+//! over its bytes, apart from the readers here, which go through the bytes once and copy none of them.
+#![tactic(auto)]
+
+mod conflict;
+mod lines;
+mod numbers;
+mod refusal;
+mod volumes;
+mod words;
+
+pub use conflict::{ConflictScript, read_conflict};
+pub use refusal::{ScriptRefusal, WordRefusal};

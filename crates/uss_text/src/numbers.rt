@@ -1,0 +1,73 @@
+ghost use Rattle.std.specs.Prelude.{◌≡◌, ◌^◌};
+ghost use Rattle.std.specs.List.{list_all};
+ghost use Rattle.std.specs.Char.{is_ascii_digit};
+ghost use Rattle.uss_text.specs.Numbers as spec;
+ghost use Rattle.uss_text.specs.Reading.{natural_below, integer_within};
+
+fn are_digits(word: &[u8]) -> bool
+    ensures { result ≡ list_all is_ascii_digit word.now }
+{
+    word.iter().all(|byte| byte.is_ascii_digit())
+}
+
+/// Whether the word is digits, of which the first isn't 0 where there are several.
+fn is_natural(word: &[u8]) -> bool
+    ensures { result ≡ spec.is_natural word.now }
+{
+    if word.is_empty() {
+        return false;
+    }
+    if word.len() == 1 {
+        return are_digits(word);
+    }
+    if word[0] == b'0' {
+        return false;
+    }
+    are_digits(word)
+}
+
+/// The number that the word writes, where it is one below 2 ^ 64.
+pub fn natural(word: &[u8]) -> Option<u64>
+    ensures { result ≡ natural_below (2 ^ 64) (spec.natural_of word.now) }
+{
+    if !is_natural(word) {
+        return None;
+    }
+    match str::from_utf8(word) {
+        Ok(text) => text.parse::<u64>().ok(),
+        Err(_) => None,
+    }
+}
+
+/// The word behind a `-` in front, if there is one.
+fn without_minus(word: &[u8]) -> &[u8]
+    ensures { result.now ≡ spec.without_minus word.now }
+{
+    match word {
+        [b'-', digits @ ..] => digits,
+        _ => word,
+    }
+}
+
+/// Whether the word is a number, with or without a `-` in front.
+fn is_integer(word: &[u8]) -> bool
+    ensures { result ≡ spec.is_integer word.now }
+{
+    if !is_natural(without_minus(word)) {
+        return false;
+    }
+    word != b"-0".as_slice()
+}
+
+/// The number that the word writes, where it is a signed one of 64 bits.
+pub fn integer(word: &[u8]) -> Option<i64>
+    ensures { result ≡ integer_within (spec.integer_of word.now) }
+{
+    if !is_integer(word) {
+        return None;
+    }
+    match str::from_utf8(word) {
+        Ok(text) => text.parse::<i64>().ok(),
+        Err(_) => None,
+    }
+}
