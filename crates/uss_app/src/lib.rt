@@ -1,0 +1,90 @@
+//! The top call: what the program does with its words, its input and its output, over any source and sink.
+#![tactic(auto)]
+
+ghost use Rattle.std.specs.Prelude.{◌≡◌, ℕ, ◌≤◌, ◌⊎◌, ◌↔◌, ◌++◌, List, true, false, map, Option, Some, string_bytes};
+ghost use Rattle.uss_cause.specs.Cause.{Rose};
+ghost use Rattle.uss_link.specs.Bytes.{TookFront};
+ghost use Rattle.uss_app.specs.Words.{is_conflict};
+ghost use Rattle.uss_app.specs.Conflict.{Says, Wrote, Began};
+
+mod conflict;
+
+use conflict::{Answer, Stop, answer_to};
+use std::alloc::Global;
+use uss_link::{Sink, Source, WriteFault, write_all};
+
+/// A word of the command line is refused.
+const USAGE: u8 = 2;
+
+/// An outside object answered a fault.
+const FAULT: u8 = 3;
+
+/// Memory is wanting.
+const MEMORY: u8 = 4;
+
+/// Carries out the command that the words after the program's name give, over this input and output, and
+/// answers the status of the program:
+///
+/// - 0: the input was read to its end, and the answer written whole;
+/// - 1: the input was refused, and the line `refused N line L` written;
+/// - 2: the words are no command; nothing is then read or written;
+/// - 3: the count of faults of the input or of the output rose; what was written is a front of the answer;
+/// - 4: memory was wanting; nothing was written.
+///
+/// The words are `conflict`: the least pair of volumes of two lists that shares a point of airspace and time.
+/// The input is judged whole before anything is written.
+pub fn command<S: Source, K: Sink>(
+    alloc: Global,
+    words: &[String],
+    input: &mut S,
+    output: &mut K,
+) -> u8
+    ensures status { result ≤ 4 }
+    ensures usage { (result ≡ 2) ↔ (is_conflict (map string_bytes words.now) ≡ false) }
+    ensures unread { result ≡ 2 → input.new ≡ input.old }
+    ensures unwritten { result ≡ 2 → output.new ≡ output.old }
+    ensures nothing_yet { result ≡ 4 → output.new ≡ output.old }
+
+    // where the source tells what it has left, and the sink what it took
+    ensures written { (left taken : List ℕ) → S.left input.old ≡ Some left → K.taken output.old ≡ Some taken → result ≤ 1 → Wrote left taken (K.taken output.new) result }
+    ensures begun { (left taken : List ℕ) → S.left input.old ≡ Some left → K.taken output.old ≡ Some taken → result ≡ 3 → Began left taken (K.taken output.new) }
+
+    // a fault has its cause
+    ensures fault { result ≡ 3 → Rose (S.faults input.old) (S.faults input.new) ⊎ Rose (K.faults output.old) (K.faults output.new) }
+    ensures source_kept { S.faults input.old ≤ S.faults input.new }
+    ensures sink_kept { K.faults output.old ≤ K.faults output.new }
+{
+    if !names_conflict(words) {
+        return USAGE;
+    }
+    match answer_to(alloc, input) {
+        Ok(answer) => told(&answer, output),
+        Err(Stop::Fault) => FAULT,
+        Err(Stop::Memory) => MEMORY,
+    }
+}
+
+/// Whether the words are the one word `conflict`.
+fn names_conflict(words: &[String]) -> bool
+    ensures { result ≡ is_conflict (map string_bytes words.now) }
+{
+    match words {
+        [word] => word.as_str() == "conflict",
+        _ => false,
+    }
+}
+
+/// Writes the answer, and gives its status, or that of a fault.
+fn told<K: Sink>(answer: &Answer, output: &mut K) -> u8
+    requires { answer.now.status ≤ 1 }
+    ensures status { (result ≡ answer.now.status) ⊎ (result ≡ 3) }
+    ensures fault { result ≡ 3 → Rose (K.faults output.old) (K.faults output.new) }
+    ensures kept { K.faults output.old ≤ K.faults output.new }
+    ensures written { (taken : List ℕ) → K.taken output.old ≡ Some taken → result ≤ 1 → K.taken output.new ≡ Some (taken ++ string_bytes answer.now.text) }
+    ensures front { (taken : List ℕ) → K.taken output.old ≡ Some taken → result ≡ 3 → TookFront taken (K.taken output.new) (string_bytes answer.now.text) }
+{
+    match write_all(output, answer.text.as_bytes()) {
+        Ok(()) => answer.status,
+        Err(WriteFault) => FAULT,
+    }
+}
