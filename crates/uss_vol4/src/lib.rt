@@ -5,10 +5,11 @@ ghost use Rattle.std.specs.Prelude.{◌≡◌, ℕ, ◌↔◌, ℤ, pos, ◌≤�
 ghost use Rattle.uss_shape.specs.Plane.{Meet, InPlane, InRegion};
 ghost use Rattle.uss_vol4.specs.Volume.{Volume4D, Shares, InRange, IsLeastShared, NoneShared, NoneSharedWith, IsFirstShared};
 
+use std::alloc::AllocError;
 use std::marker::Model;
 use uss_shape::{Outline, Place};
 
-#[derive(Drop)]
+#[derive(Debug, Drop)]
 pub struct Volume4 {
     outline: Outline,
     low: i64,
@@ -23,6 +24,20 @@ impl Model for Volume4 {
     ghost view = { λ v. record { outline = v.outline; low = v.low; high = v.high; start = v.start; end = v.end } };
 
     ghost invariant = { λ v. (v.low ≤ℤ v.high) × (v.start ≤ℤ v.end) };
+}
+
+impl Clone for Volume4 {
+    ghost is_clone = { λ a b. b ≡ a };
+
+    fn clone(&self) -> Result<Volume4, AllocError> {
+        Ok(Volume4 {
+            outline: self.outline.clone()?,
+            low: self.low,
+            high: self.high,
+            start: self.start,
+            end: self.end,
+        })
+    }
 }
 
 #[derive(Debug, Drop)]
