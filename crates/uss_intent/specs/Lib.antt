@@ -1,4 +1,5 @@
 pub mod Texts
-pub mod Numbers
+pub mod Identifiers
+pub mod Tags
 pub mod States
 pub mod Refusals

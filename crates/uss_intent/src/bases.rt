@@ -1,8 +1,8 @@
-ghost use Rattle.std.specs.Prelude.{◌≡◌, ◌↔◌, ℕ, IsTrue, IfOk, IsErrOf, OnOk, Some, None, Ok, List, nat_eq};
+ghost use Rattle.std.specs.Prelude.{◌≡◌, ◌↔◌, ℕ, IsTrue, IfOk, IsErrOf, OnOk, Some, None, Ok, List, length, nat_eq, ◌≤◌};
 ghost use Rattle.std.specs.Cmp.{partial_equiv_from_equiv};
 ghost use Rattle.std.specs.Cmp.Lexicographic.{pointwise, nat_list_eq_equiv};
 ghost use Rattle.url.specs.Parser.{parse_url};
-ghost use Rattle.uss_intent.specs.Texts.{IsBase, is_plain_http};
+ghost use Rattle.uss_intent.specs.Texts.{IsBase, is_plain_http, tagged_base};
 
 use crate::IntentRefusal;
 use crate::names::is_visible;
@@ -67,6 +67,18 @@ impl Base {
         Ok(Base {
             text: String::from_str(alloc, text)?,
         })
+    }
+
+    /// The base URL of the attempt with this tag: this one with `/a/` and the tag in decimal. For a configured
+    /// base URL, which has at most 256 bytes.
+    pub fn tagged(&self, alloc: Global, tag: u64) -> Result<Base, AllocError>
+        requires { length self.now ≤ 256 }
+        ensures { IfOk result (λ base. base ≡ tagged_base self.now tag) }
+    {
+        let mut text = String::from_str(alloc, self.text.as_str())?;
+        text.push_str("/a/")?;
+        write!(text, "{tag}")?;
+        Ok(Base { text })
     }
 
     /// The URL's bytes.

@@ -12,11 +12,13 @@ mod lists;
 mod names;
 mod records;
 mod refusals;
+mod tags;
 
 pub use bases::Base;
 pub use calls::{DssAsk, DssRefusal, DssReply};
-pub use identifiers::{FlightId, TicketId};
+pub use identifiers::{FlightId, TicketId, flight_id, ticket_id};
 pub use lists::{Landings, Ovns, Owed, References, Sequence, Volumes};
 pub use names::{Name, Ovn};
 pub use records::{Landing, Recorded, Reference, State, Subscriber, Ticket};
 pub use refusals::IntentRefusal;
+pub use tags::tag_of;
