@@ -1,1 +1,5 @@
 pub mod Volume
+pub mod Refusal
+pub mod Sharing
+pub mod Bounding
+pub mod Same
