@@ -1,31 +1,27 @@
 -- A base URL followed by a path is a base URL.
-use Rattle.std.proofs.Common.{◌^◌, ◌≡◌, ◌≢◌, ℕ, zero, suc, ◌+◌, ◌-◌, ◌<◌, ◌≤◌, Bool, true, false, not, cond, ◌&&◌, ◌||◌, ◌==◌, ltb, ◌⊎◌, List, [], ◌∷◌, ◌++◌, length, get_or, take, drop, Some, None, Ok, Err, All, sym, refl, ap, ◌∙◌, subst, inl, inr, ⊎_elim, arith, length-append, take_all, one-add, zero-add, suc-add, append_assoc, lit≤}
-use Rattle.std.specs.Prelude.{decimal, Option, is_some, unwrap_or, option_map, codes, bytes_eq, reverse}
+use Rattle.std.proofs.Common.{◌^◌, ◌≡◌, ◌≢◌, ℕ, zero, suc, ◌+◌, ◌-◌, ◌<◌, ◌≤◌, Bool, true, false, not, cond, ◌&&◌, ◌||◌, ◌==◌, ltb, List, [], ◌∷◌, ◌++◌, length, get_or, take, drop, Some, None, Ok, Err, All, sym, refl, ap, ◌∙◌, subst, arith, length-append, take_all, one-add, zero-add, suc-add, append_assoc, lit≤}
+use Rattle.std.specs.Prelude.{decimal, Option, unwrap_or, option_map, codes, bytes_eq, reverse}
 use Rattle.std.specs.List.{prefix_len}
 use Rattle.std.specs.Char.{is_ascii_alphabetic}
-use Rattle.std.proofs.lemmas.Bool.{cond-true, cond-false, cond_both, cases_Bool, true≢false, lt-leb, and_parts, and_right, and_from, ne_eqb, cases_eq, eq-eqb}
+use Rattle.std.proofs.lemmas.Bool.{cond-false, lt-leb, and_parts}
 use Rattle.std.proofs.lemmas.Bool.Decides.{nat_tests}
 use Rattle.std.proofs.lemmas.List.{get_or-reverse, length-reverse, get_or_append_left}
 use Rattle.std.proofs.lemmas.List.{take-append-le, drop-append-le}
-use Rattle.std.proofs.lemmas.List.Elements.{All-from_get_or, All-nil, All-cons, All-head, All-tail, All-append, All-weaker}
+use Rattle.std.proofs.lemmas.List.Elements.{All-nil, All-cons, All-head, All-tail, All-append, All-weaker}
 use Rattle.std.proofs.lemmas.Slice.Eq.{bytes_eq-Decides}
 use Rattle.std.proofs.Math.Nat.{sub-zero}
 use Rattle.std.proofs.lemmas.Fmt.{length-decimal-le, decimal_nonempty}
-use Rattle.std.proofs.lemmas.Str.{IsUtf8-from_ascii}
-use Rattle.std.specs.Str.{IsUtf8}
 use Rattle.url.proofs.HostRoundTrip.{All-decimal}
 use Rattle.url.specs.declared.error.ParseError.{ParseError}
 use Rattle.url.specs.declared.error.ParseError.TheVariants.{EmptyHost}
-use Rattle.url.specs.declared.host.Host.{Host}
 use Rattle.url.specs.declared.host.Host.TheVariants.{Domain}
-use Rattle.url.specs.declared.scheme.SchemeType.TheVariants.{File, SpecialNotFile, NotSpecial}
+use Rattle.url.specs.declared.scheme.SchemeType.TheVariants.{File, NotSpecial}
 use Rattle.url.specs.Input.{is_c0_control_or_space, is_tab_or_new_line, trim_start, trim_c0_control_and_space, strip_tabs_and_new_lines, lowercase, split_once, rsplit_once}
 use Rattle.url.specs.Scheme.{scheme_type, default_port, is_special, is_file, is_slash, is_scheme_byte, scheme_len}
 use Rattle.url.specs.Host.{parse_host, parse_file_host}
 use Rattle.url.specs.Path.{segment_len, is_windows_drive_letter, parse_path, parse_path_start}
-use Rattle.url.specs.Parts.{Parts, kind_of}
-use Rattle.url.specs.Head.{scheme_only, with_authority}
-use Rattle.url.specs.Parser.{Parsed, and_then, split_port, parse_port, lacks_host, parse_authority, with_path, leading_slashes, skip_slashes, after_double_slash, parse_non_special, file_with_host, after_file_double_slash, file_start, parse_file, parse_not_file, parse_body, with_tail, end_path, before_tail, parse_parts, split_scheme, parse_by_scheme, parse_url}
+use Rattle.url.specs.Parts.{Parts}
+use Rattle.url.specs.Parser.{Parsed, and_then, split_port, parse_port, lacks_host, parse_authority, with_path, leading_slashes, skip_slashes, after_double_slash, parse_non_special, file_with_host, after_file_double_slash, file_start, parse_file, parse_body, with_tail, before_tail, parse_parts, split_scheme, parse_by_scheme, parse_url}
 use Rattle.url.proofs.InputLemmas.{IsNot, Passes, StopsAt, split_once_none, filter_all}
 use Rattle.url.proofs.SchemeLemmas.{file_from_is_file, file_from_scheme_type}
 use Rattle.url.proofs.OnLiterals.{url_on_literals}

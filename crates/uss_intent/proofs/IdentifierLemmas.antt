@@ -1,11 +1,11 @@
 -- An identifier is read from its own text, and from no other.
-use Rattle.std.proofs.Common.{◌≡◌, ◌<◌, ◌^◌, ℕ, Bool, true, false, List, Option, Some, None, Result, Ok, Err, IsOk, ◌↔◌, All, refl, sym, ap, ◌∙◌, subst, inl, arith, if◌then◌else◌, length, get_or, zero, suc, [], ◌∷◌, ◌/◌, ◌%◌, map}
+use Rattle.std.proofs.Common.{◌≡◌, ◌<◌, ◌^◌, ℕ, Bool, true, false, List, Option, Some, None, All, refl, sym, ap, ◌∙◌, subst, inl, arith, if◌then◌else◌, length, get_or, zero, suc, [], ◌∷◌, ◌/◌, ◌%◌, map}
 use Rattle.std.specs.Prelude.{bytes_eq}
 use Rattle.std.specs.Int.{to_be_bytes, from_be_bytes, w128}
 use Rattle.std.specs.Str.{IsUtf8}
 use Rattle.std.proofs.lemmas.Str.{IsUtf8-from_ascii}
 use Rattle.std.proofs.lemmas.Slice.Eq.{bytes_eq-Decides}
-use Rattle.uuid.specs.Text.{hyphenated_text, lower, parsed}
+use Rattle.uuid.specs.Text.{lower, parsed}
 use Rattle.uuid.proofs.TextLemmas.{hyphenated_ascii}
 use Rattle.uuid.proofs.RoundTrips.{parses_hyphenated}
 use Rattle.uuid.proofs.OrderLemmas.{from_be_bytes-to_be_bytes_16}

@@ -1,12 +1,12 @@
 -- Names, OVNs and base URLs are ASCII, and so UTF-8.
-use Rattle.std.proofs.Common.{◌≡◌, ℕ, zero, suc, ◌<◌, Bool, true, false, not, ◌&&◌, ◌==◌, nat_le, length, None, List, [], ◌∷◌, get_or, arith, IsTrue}
+use Rattle.std.proofs.Common.{◌≡◌, ℕ, zero, suc, ◌<◌, Bool, true, not, ◌&&◌, ◌==◌, nat_le, length, None, List, [], ◌∷◌, get_or, arith}
 use Rattle.std.specs.List.{list_all}
 use Rattle.std.specs.Str.{IsUtf8}
 use Rattle.std.proofs.lemmas.Bool.{and_parts}
 use Rattle.std.proofs.lemmas.Bool.Decides.{nat_tests}
 use Rattle.std.proofs.lemmas.Str.{IsUtf8-from_ascii}
 use Rattle.url.specs.Parser.{parse_url}
-use Rattle.uss_intent.specs.Texts.{is_name, IsName, is_name_byte, is_ovn, IsOvn, is_visible, IsBase, last_byte, is_plain_http}
+use Rattle.uss_intent.specs.Texts.{IsName, is_name_byte, IsOvn, is_visible, IsBase, last_byte, is_plain_http}
 
 ascii_at : (p : ℕ → Bool) → ((b : ℕ) → p b ≡ true → b < 128) → (xs : List ℕ) → list_all p xs ≡ true → (i : ℕ) → get_or xs i 0 < 128
 ascii_at p small [] h i = omega arith

@@ -3,3 +3,5 @@ pub mod Identifiers
 pub mod Tags
 pub mod States
 pub mod Refusals
+pub mod Same
+pub mod SameLaws

@@ -1,5 +1,7 @@
--- The numbers of the refusals of the discovery service. This project's own.
-use Rattle.std.specs.Prelude.{ℕ}
+-- The numbers under which refusals are printed. This project's own.
+use Rattle.std.specs.Prelude.{ℕ, Option, Some, None}
+use Rattle.uss_intent.specs.declared.refusals.IntentRefusal.{IntentRefusal}
+use Rattle.uss_intent.specs.declared.refusals.IntentRefusal.TheVariants.{BadName, BadBase, BadOvn, Memory}
 use Rattle.uss_intent.specs.declared.calls.DssRefusal.{DssRefusal}
 use Rattle.uss_intent.specs.declared.calls.DssRefusal.TheVariants.{BadCall, NotYours, Exists, Retired, Absent, StaleOvn, NoTicket, NotCovered, MissingKey, TicketInUse, Full}
 
@@ -15,3 +17,9 @@ refusal_number NotCovered = 208
 refusal_number (MissingKey references) = 209
 refusal_number TicketInUse = 210
 refusal_number (Full limit) = 211
+
+abbrev pub number_of : IntentRefusal → Option ℕ
+number_of BadName = Some 128
+number_of BadBase = Some 129
+number_of BadOvn = Some 130
+number_of Memory = None

@@ -1,5 +1,5 @@
 -- Which texts are names, OVNs and base URLs. This project's own limits; ASTM F3548-21 gives base URLs and OVNs as texts.
-use Rattle.std.specs.Prelude.{ℕ, ◌+◌, ◌-◌, ◌==◌, nat_le, Bool, true, false, not, ◌&&◌, ◌||◌, List, ◌++◌, length, slice_index, codes, bytes_eq, decimal, is_none, IsTrue, None, Ok, Err}
+use Rattle.std.specs.Prelude.{ℕ, ◌-◌, ◌==◌, nat_le, Bool, false, not, ◌&&◌, ◌||◌, List, ◌++◌, length, slice_index, codes, bytes_eq, decimal, is_none, IsTrue, None, Ok, Err}
 use Rattle.std.specs.Char.{is_ascii_alphanumeric}
 use Rattle.std.specs.List.{list_all}
 use Rattle.url.specs.Parts.{Parts}

@@ -78,7 +78,7 @@ pub enum DssRefusal {
 }
 
 /// The reply of the discovery service to a call.
-#[derive(Debug, Drop)]
+#[derive(Debug, Drop, PartialEq)]
 pub enum DssReply {
     /// To a Query: the references found, ascending by flight.
     Found(References),
@@ -169,5 +169,83 @@ impl Clone for DssAsk {
                 version: *version,
             },
         })
+    }
+}
+
+impl PartialEq for DssAsk {
+    ghost use Rattle.std.specs.Cmp.{partial_equiv_from_equiv};
+    ghost use Rattle.uss_intent.specs.Same.{same_ask};
+    ghost use Rattle.uss_intent.specs.SameLaws.{same_ask_equiv};
+
+    ghost eq = { same_ask };
+
+    ghost laws = { partial_equiv_from_equiv same_ask_equiv };
+
+    fn eq(&self, other: &DssAsk) -> bool {
+        match self {
+            DssAsk::Query { area } => matches!(other, DssAsk::Query { area: a } if area == a),
+            DssAsk::Get { flight } => matches!(other, DssAsk::Get { flight: f } if flight == f),
+            DssAsk::Put {
+                flight,
+                ovn,
+                extents,
+                key,
+                state,
+                base,
+                ticket,
+            } => match other {
+                DssAsk::Put {
+                    flight: f,
+                    ovn: o,
+                    extents: e,
+                    key: k,
+                    state: s,
+                    base: b,
+                    ticket: t,
+                } => {
+                    flight == f
+                        && ovn == o
+                        && extents == e
+                        && key == k
+                        && state == s
+                        && base == b
+                        && ticket == t
+                }
+                _ => false,
+            },
+            DssAsk::Remove { flight, ovn } => match other {
+                DssAsk::Remove { flight: f, ovn: o } => flight == f && ovn == o,
+                _ => false,
+            },
+            DssAsk::TicketPut { ticket, area, base } => match other {
+                DssAsk::TicketPut {
+                    ticket: t,
+                    area: a,
+                    base: b,
+                } => ticket == t && area == a && base == b,
+                _ => false,
+            },
+            DssAsk::TicketGet { ticket } => {
+                matches!(other, DssAsk::TicketGet { ticket: t } if ticket == t)
+            }
+            DssAsk::TicketRemove { ticket, version } => match other {
+                DssAsk::TicketRemove {
+                    ticket: t,
+                    version: v,
+                } => ticket == t && version == v,
+                _ => false,
+            },
+        }
+    }
+}
+
+impl DssAsk {
+    ghost use Rattle.std.specs.Prelude.{◌≡◌, ◌↔◌, IsTrue};
+
+    /// Whether the two calls have the same values.
+    pub fn is_same(&self, other: &DssAsk) -> bool
+        ensures { IsTrue result ↔ (self.now ≡ other.now) }
+    {
+        self == other
     }
 }

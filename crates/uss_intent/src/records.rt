@@ -1,4 +1,4 @@
-ghost use Rattle.std.specs.Prelude.{◌≡◌, Some};
+ghost use Rattle.std.specs.Prelude.{◌≡◌, ◌↔◌, IsTrue, Some};
 
 use crate::{Base, FlightId, Name, Ovn, TicketId, Volumes};
 use std::alloc::AllocError;
@@ -7,16 +7,53 @@ use uss_vol4::Volume4;
 
 /// The state of an operational intent (ASTM F3548-21, operational intent states, but for Ended, which is no state
 /// of a recorded reference).
-#[derive(Clone, Copy, Debug, PartialEq, Eq)]
+#[derive(Clone, Copy, Debug)]
 pub enum State {
     /// Planned: the volumes are the flight's, and it isn't flown yet.
-    Accepted,
+    Accepted = 1,
     /// The flight is flown within its volumes.
-    Activated,
+    Activated = 2,
     /// The flight left its volumes, and may come back.
-    Nonconforming,
+    Nonconforming = 3,
     /// The flight isn't expected to come back into its volumes.
-    Contingent,
+    Contingent = 4,
+}
+
+impl State {
+    ghost use Rattle.std.specs.Prelude.{◌≡◌};
+    ghost use Rattle.uss_intent.specs.States.{state_number};
+
+    /// The state's number, 1 to 4 in the order of their declaration.
+    pub fn number(self) -> u8
+        ensures { result ≡ state_number self }
+    {
+        self as u8
+    }
+}
+
+impl PartialEq for State {
+    ghost use Rattle.std.specs.Prelude.{◌≡◌, ◌↔◌, IsTrue};
+    ghost use Rattle.std.specs.Cmp.{partial_equiv_from_equiv};
+    ghost use Rattle.std.proofs.lemmas.Cmp.{on_equiv, nat_eq_equiv};
+    ghost use Rattle.uss_intent.specs.States.{state_number, same_state};
+
+    ghost eq = { same_state };
+
+    ghost laws = { partial_equiv_from_equiv (on_equiv state_number nat_eq_equiv) };
+
+    fn eq(&self, other: &State) -> bool
+        ensures value { result ≡ same_state self.now other.now }
+        ensures same { IsTrue result ↔ (self.now ≡ other.now) }
+    {
+        self.number() == other.number()
+    }
+}
+
+impl Eq for State {
+    ghost use Rattle.std.proofs.lemmas.Cmp.{on_equiv, nat_eq_equiv};
+    ghost use Rattle.uss_intent.specs.States.{state_number};
+
+    ghost laws = { on_equiv state_number nat_eq_equiv };
 }
 
 impl fmt::Display for State {
@@ -77,7 +114,7 @@ impl Clone for Reference {
 }
 
 /// A reference with the extents that the discovery service keeps beside it.
-#[derive(Debug, Drop)]
+#[derive(Debug, Drop, PartialEq)]
 pub struct Recorded {
     pub reference: Reference,
     /// The volumes followed by the off-nominal volumes.
@@ -97,7 +134,7 @@ impl Clone for Recorded {
 
 /// A ticket at the discovery service: a subscription that belongs to one job of its manager (Subscription of the
 /// OpenAPI annex of ASTM F3548-21).
-#[derive(Debug, Drop)]
+#[derive(Debug, Drop, PartialEq)]
 pub struct Ticket {
     pub id: TicketId,
     /// The client that made it.
@@ -173,5 +210,60 @@ impl Clone for Landing {
             previous: self.previous.clone()?,
             ticket: self.ticket,
         })
+    }
+}
+
+impl Reference {
+    ghost use Rattle.std.specs.Prelude.{◌≡◌, ◌↔◌, IsTrue};
+
+    /// Whether the two references have the same values.
+    pub fn is_same(&self, other: &Reference) -> bool
+        ensures { IsTrue result ↔ (self.now ≡ other.now) }
+    {
+        self == other
+    }
+}
+
+impl Recorded {
+    ghost use Rattle.std.specs.Prelude.{◌≡◌, ◌↔◌, IsTrue};
+
+    /// Whether the two recorded references have the same values.
+    pub fn is_same(&self, other: &Recorded) -> bool
+        ensures { IsTrue result ↔ (self.now ≡ other.now) }
+    {
+        self == other
+    }
+}
+
+impl Ticket {
+    ghost use Rattle.std.specs.Prelude.{◌≡◌, ◌↔◌, IsTrue};
+
+    /// Whether the two tickets have the same values.
+    pub fn is_same(&self, other: &Ticket) -> bool
+        ensures { IsTrue result ↔ (self.now ≡ other.now) }
+    {
+        self == other
+    }
+}
+
+impl Subscriber {
+    ghost use Rattle.std.specs.Prelude.{◌≡◌, ◌↔◌, IsTrue};
+
+    /// Whether the two subscribers have the same values.
+    pub fn is_same(&self, other: &Subscriber) -> bool
+        ensures { IsTrue result ↔ (self.now ≡ other.now) }
+    {
+        self == other
+    }
+}
+
+impl Landing {
+    ghost use Rattle.std.specs.Prelude.{◌≡◌, ◌↔◌, IsTrue};
+
+    /// Whether the two landings have the same values.
+    pub fn is_same(&self, other: &Landing) -> bool
+        ensures { IsTrue result ↔ (self.now ≡ other.now) }
+    {
+        self == other
     }
 }

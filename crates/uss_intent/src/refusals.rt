@@ -11,8 +11,25 @@ pub enum IntentRefusal {
     BadBase,
     /// 130: the text is no OVN.
     BadOvn,
-    /// There was no memory.
+    /// There was no memory. It has no number.
     Memory,
+}
+
+impl IntentRefusal {
+    ghost use Rattle.std.specs.Prelude.{◌≡◌};
+    ghost use Rattle.uss_intent.specs.Refusals.{number_of};
+
+    /// The number under which the refusal is printed: 128 to 130, none for want of memory.
+    pub fn number(&self) -> Option<u16>
+        ensures { result ≡ number_of self.now }
+    {
+        match self {
+            IntentRefusal::BadName => Some(128),
+            IntentRefusal::BadBase => Some(129),
+            IntentRefusal::BadOvn => Some(130),
+            IntentRefusal::Memory => None,
+        }
+    }
 }
 
 impl From<AllocError> for IntentRefusal {

@@ -1,5 +1,5 @@
-use Rattle.std.proofs.Common.{◌≡◌, ◌∙◌, sym, ap}
-use Rattle.uss_intent.specs.Identifiers.{identifier_of, identifier_text}
+use Rattle.std.proofs.Common.{◌∙◌, sym, ap}
+use Rattle.uss_intent.specs.Identifiers.{identifier_of}
 use Rattle.uss_intent.proofs.IdentifierLemmas.{identifier_is_text, identifier_is_read}
 use Rattle.uss_intent.proofs.identifiers.TicketId.read.Goals as goal
 
