@@ -1,0 +1,4 @@
+pub mod TextLemmas
+pub mod BaseClosure
+pub mod TagLemmas
+pub mod IdentifierLemmas

@@ -1,0 +1,6 @@
+use Rattle.std.proofs.lemmas.Bool.Decides.{Decides-at}
+use Rattle.uss_intent.specs.SameLaws.{ticket_is_same}
+use Rattle.uss_intent.proofs.records.Ticket.is_same.Goals as goal
+
+pub returns : goal.returns
+returns c = Decides-at _ _ c.eq.ensures (ticket_is_same c.args.self.now c.args.other.now)

@@ -1,0 +1,7 @@
+pub mod Texts
+pub mod Identifiers
+pub mod Tags
+pub mod States
+pub mod Refusals
+pub mod Same
+pub mod SameLaws
