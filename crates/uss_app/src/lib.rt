@@ -8,6 +8,8 @@ ghost use Rattle.uss_app.specs.Words.{is_conflict};
 ghost use Rattle.uss_app.specs.Conflict.{Says, Wrote, Began};
 
 mod conflict;
+#[cfg(test)]
+mod tests;
 
 use conflict::{Answer, Stop, answer_to};
 use std::alloc::Global;

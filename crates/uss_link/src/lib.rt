@@ -7,6 +7,8 @@ mod adapters;
 mod memory;
 mod sink;
 mod source;
+#[cfg(test)]
+mod tests;
 
 pub use adapters::{ReaderSource, WriterSink};
 pub use memory::{MemorySink, MemorySource};

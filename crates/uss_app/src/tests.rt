@@ -1,0 +1,116 @@
+use super::*;
+use std::test::Fail;
+use uss_link::{MemorySink, MemorySource};
+
+/// The status of `conflict` over this input, and what was written.
+fn run(alloc: Global, input: Vec<u8>) -> Result<(u8, Vec<u8>), Fail> {
+    let words = vec![in alloc; String::from_str(alloc, "conflict")?]?;
+    let mut source = MemorySource::new(alloc, input);
+    let mut sink = MemorySink::new(alloc);
+    let status = command(alloc, words.as_slice(), &mut source, &mut sink);
+    Ok((status, Vec::from_slice(alloc, sink.taken())?))
+}
+
+const SQUARE: &str = "a rect 0 0 10 10 0 100 1700003600000000000 1700005400000000000\n";
+
+const NEXT: &str = "b rect 10 10 20 20 0 100 1700003600000000000 1700005400000000000\n";
+
+#[test]
+fn scripts_are_answered(rt: HostRuntime) -> Result<(), Fail> {
+    let alloc = rt.alloc();
+    let bars =
+        "a poly 4 0 0 10 3 10 4 0 1 0 100 1700003600000000000 1700005400000000000\nb poly 4 3 -5 4 -5 4 9 3 9 0 100 1700003600000000000 1700005400000000000\n";
+    let notch =
+        "a poly 8 0 0 30 0 30 30 20 30 20 10 10 10 10 30 0 30 0 100 1700003600000000000 1700005400000000000\nb rect 12 15 18 25 0 100 1700003600000000000 1700005400000000000\n";
+    let waist =
+        "a poly 4 0 0 10 10 10 0 0 10 0 100 1700003600000000000 1700005400000000000\nb rect 4 7 6 9 0 100 1700003600000000000 1700005400000000000\n";
+    let point =
+        "a poly 4 0 0 10 10 10 0 0 10 0 100 1700003600000000000 1700005400000000000\nb rect 4 4 4 4 0 100 1700003600000000000 1700005400000000000\n";
+    let two = "a poly 2 0 0 1 0 0 100 1700003600000000000 1700005400000000000\n";
+    let rows = [
+        ("", 0, "clear\n"),
+        (SQUARE, 0, "clear\n"),
+        (bars, 0, "shares 0 0\n"),
+        (notch, 0, "clear\n"),
+        (waist, 0, "clear\n"),
+        (point, 0, "shares 0 0\n"),
+        (two, 1, "refused 101 line 1\n"),
+        ("a rect 0 0 1 1 5 4 0 0\n", 1, "refused 111 line 1\n"),
+        ("c", 1, "refused 441 line 1\n"),
+        ("\n", 1, "refused 441 line 1\n"),
+        ("a rect 01", 1, "refused 442 line 1\n"),
+    ];
+    for (input, status, text) in rows {
+        let found = run(alloc, Vec::from_slice(alloc, input.as_bytes())?)?;
+        assert_eq!(rt; found.0, status, "{input}");
+        assert_eq!(rt; found.1.as_slice(), text.as_bytes(), "{input}");
+    }
+    let corner = format!(in alloc; "{SQUARE}{NEXT}")?;
+    let found = run(alloc, Vec::from_slice(alloc, corner.as_bytes())?)?;
+    assert_eq!(rt; found.1.as_slice(), b"shares 0 0\n".as_slice());
+    Ok(())
+}
+
+#[test]
+fn the_limit_is_64_mebibytes(rt: HostRuntime) -> Result<(), Fail> {
+    let alloc = rt.alloc();
+    let whole = run(alloc, vec![in alloc; b'a'; 67_108_864]?)?;
+    assert_eq!(rt; whole.0, 1);
+    assert_eq!(rt; whole.1.as_slice(), b"refused 441 line 1\n".as_slice());
+    let more = run(alloc, vec![in alloc; b'a'; 67_108_865]?)?;
+    assert_eq!(rt; more.0, 1);
+    assert_eq!(rt; more.1.as_slice(), b"refused 443 line 0\n".as_slice());
+    Ok(())
+}
+
+/// The status over a source and a sink whose calls with these numbers fail, and what was written. The sink
+/// takes at most `piece` bytes at a call.
+fn broken(
+    alloc: Global,
+    reads: &[u64],
+    writes: &[u64],
+    piece: usize,
+) -> Result<(u8, Vec<u8>), Fail> {
+    let words = vec![in alloc; String::from_str(alloc, "conflict")?]?;
+    let input = Vec::from_slice(alloc, SQUARE.as_bytes())?;
+    let mut source = MemorySource::new(alloc, input).failing_at(Vec::from_slice(alloc, reads)?);
+    let mut sink = MemorySink::new(alloc)
+        .failing_at(Vec::from_slice(alloc, writes)?)
+        .in_pieces_of(piece);
+    let status = command(alloc, words.as_slice(), &mut source, &mut sink);
+    Ok((status, Vec::from_slice(alloc, sink.taken())?))
+}
+
+#[test]
+fn faults_have_status_3(rt: HostRuntime) -> Result<(), Fail> {
+    let alloc = rt.alloc();
+    assert_eq!(rt; broken(alloc, &[1], &[], 99)?.0, 3);
+    assert_eq!(rt; broken(alloc, &[2], &[], 99)?.0, 3);
+    assert_eq!(rt; broken(alloc, &[], &[1], 99)?.0, 3);
+    let second = broken(alloc, &[], &[2], 1)?;
+    assert_eq!(rt; second.0, 3);
+    assert_eq!(rt; second.1.as_slice(), b"c".as_slice());
+    let whole = broken(alloc, &[9], &[9], 1)?;
+    assert_eq!(rt; whole.0, 0);
+    assert_eq!(rt; whole.1.as_slice(), b"clear\n".as_slice());
+    Ok(())
+}
+
+#[test]
+fn other_words_are_refused(rt: HostRuntime) -> Result<(), Fail> {
+    let alloc = rt.alloc();
+    let lists: [&[&str]; 4] = [&[], &["conflicts"], &["conflict", "conflict"], &["--help"]];
+    for list in lists {
+        let mut words = Vec::new(alloc);
+        for word in list {
+            words.push(String::from_str(alloc, word)?)?;
+        }
+        let mut source = MemorySource::new(alloc, Vec::new(alloc));
+        let mut sink = MemorySink::new(alloc);
+        let status = command(alloc, words.as_slice(), &mut source, &mut sink);
+        assert_eq!(rt; status, 2);
+        assert_eq!(rt; source.calls(), 0);
+        assert_eq!(rt; sink.calls(), 0);
+    }
+    Ok(())
+}
