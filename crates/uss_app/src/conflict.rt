@@ -45,6 +45,7 @@ pub fn answer_to<S: Source>(alloc: Global, input: &mut S) -> Result<Answer, Stop
     ensures kept { S.faults input.old ≤ S.faults input.new }
     ensures fault { IsErrOf result Stop.Fault → Rose (S.faults input.old) (S.faults input.new) }
     ensures status { IfOk result (λ a. a.status ≤ 1) }
+    ensures ended { (left : List ℕ) → S.left input.old ≡ Some left → IfOk result (λ a. a.status ≡ 0 → S.left input.new ≡ Some []) }
     ensures says { (left : List ℕ) → S.left input.old ≡ Some left → IfOk result (λ a. Says left a.status (string_bytes a.text)) }
 {
     match read_whole(alloc, input, MOST) {

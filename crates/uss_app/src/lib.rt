@@ -1,7 +1,7 @@
 //! The top call: what the program does with its words, its input and its output, over any source and sink.
 #![tactic(auto)]
 
-ghost use Rattle.std.specs.Prelude.{◌≡◌, ℕ, ◌≤◌, ◌⊎◌, ◌↔◌, ◌++◌, List, true, false, map, Option, Some, string_bytes};
+ghost use Rattle.std.specs.Prelude.{◌≡◌, ℕ, ◌≤◌, ◌⊎◌, ◌↔◌, ◌++◌, List, [], true, false, map, Option, Some, string_bytes};
 ghost use Rattle.uss_cause.specs.Cause.{Rose};
 ghost use Rattle.uss_link.specs.Bytes.{TookFront};
 ghost use Rattle.uss_app.specs.Words.{is_conflict};
@@ -49,6 +49,7 @@ pub fn command<S: Source, K: Sink>(
 
     // where the source tells what it has left, and the sink what it took
     ensures written { (left taken : List ℕ) → S.left input.old ≡ Some left → K.taken output.old ≡ Some taken → result ≤ 1 → Wrote left taken (K.taken output.new) result }
+    ensures read_whole { (left : List ℕ) → S.left input.old ≡ Some left → result ≡ 0 → S.left input.new ≡ Some [] }
     ensures begun { (left taken : List ℕ) → S.left input.old ≡ Some left → K.taken output.old ≡ Some taken → result ≡ 3 → Began left taken (K.taken output.new) }
 
     // a fault has its cause
