@@ -1,5 +1,5 @@
 use Rattle.uss_shape.proofs.Ring.{lin}
-use Rattle.uss_shape.specs.Words.{EdgesMeet, SomeEdge, Straddle, Ranges, Touches, InR, odd}
+use Rattle.uss_shape.specs.Words.{SomeEdge, Straddle, Ranges, Touches, InR, odd}
 use Rattle.std.proofs.Common.{◌≡◌, ◌↔◌, ◌⊎◌, inl, inr, Bool, true, false, IsTrue, ◌&&◌, ◌||◌, refl, ap, sym, ◌∙◌, arith, List, [], ◌∷◌, ℤ, pos, ◌*ℤ◌}
 use Rattle.std.specs.Prelude.{◌≤ℤ◌, ◌<ℤ◌, int_le}
 use Rattle.std.specs.List.{list_any}

@@ -134,6 +134,22 @@ unfolding bounding_box
 grown_is [] d l = absurd (omega arith)
 grown_is (v ∷ vs) d l = refl
 
+-- ---- the box of one volume
+min_self : (a : ℤ) → int_min a a ≡ a
+min_self a = omega (arith, ints, clamps)
+
+max_self : (a : ℤ) → int_max a a ≡ a
+max_self a = omega (arith, ints, clamps)
+
+one_box : (v : Volume4D) → bounding_box (v ∷ []) ≡ box_of v
+unfolding bounding_box
+one_box v = simp (min_self, max_self)
+
+pub bounds_one : (v : Volume4D) → IsVolume v → BoundsSome (box_of v)
+bounds_one v i =
+    let a : All IsVolume (v ∷ []) = All-cons IsVolume v [] i (All-nil IsVolume) in
+    record { volumes = v ∷ []; some = omega arith; well_formed = a; bounding = rw (one_box v) at (bounding_box_is (v ∷ []) (omega arith) a) }
+
 -- ---- the box of some volumes makes a volume
 record Chosen {A : Type 0} (Q : A → Type 0) (f : A → ℤ) (m : ℤ) : Type 0 where
   item : A

@@ -116,7 +116,7 @@ impl Eq for Volume4 {
 
 impl Volume4 {
     ghost use Rattle.uss_vol4.specs.Refusal.{Refused};
-    ghost use Rattle.uss_vol4.specs.Bounding.{box_of};
+    ghost use Rattle.uss_vol4.specs.Bounding.{box_of, BoundsSome};
 
     /// The volume over this outline from `low` to `high` mm and from `start` to `end` ns. The refusals come in the order of their
     /// numbers. Takes no memory; a refused outline is dropped.
@@ -193,6 +193,7 @@ impl Volume4 {
     /// The bounds of the outline with the ranges. Takes no memory, and no time: they are kept.
     pub fn bounds(&self) -> Box4
         ensures value { result ≡ box_of self.now }
+        ensures some { BoundsSome result }
         ensures volume { IsVolume self.now }
     {
         Box4 {
