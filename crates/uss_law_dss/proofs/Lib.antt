@@ -10,3 +10,4 @@ pub mod AfterPut
 pub mod AfterOthers
 pub mod EachOrderly
 pub mod EachFits
+pub mod Points

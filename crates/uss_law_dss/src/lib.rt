@@ -4,25 +4,42 @@
 //! `specs/Fits.antt` which replies fit a call. The functions below do nothing: their contracts carry the laws.
 #![tactic(auto)]
 
-ghost use Rattle.std.specs.Prelude.{◌≡◌, ◌<◌, ◌^◌, ◌+◌, ℕ, List, length, true, Some};
+ghost use Rattle.std.specs.Prelude.{◌≡◌, ◌≢◌, ◌↔◌, ◌<◌, ◌^◌, ◌+◌, ℕ, List, length, Any, IsTrue, true, Some};
+ghost use Rattle.uss_vol4.specs.Volume.{Volume4D, Shares, ListsShare};
 ghost use Rattle.uss_intent.specs.declared.calls.DssAsk.{DssAsk};
 ghost use Rattle.uss_intent.specs.declared.calls.DssReply.TheVariants.{Refused};
 ghost use Rattle.uss_intent.specs.declared.calls.DssRefusal.{DssRefusal};
 ghost use Rattle.uss_intent.specs.declared.records.Landing.{Landing};
 ghost use Rattle.uss_intent.specs.declared.records.Ticket.{Ticket};
+ghost use Rattle.uss_intent.specs.declared.records.Recorded.{Recorded};
 ghost use Rattle.uss_intent.specs.Texts.{IsOvn};
 ghost use Rattle.uss_law_dss.specs.Lists.{Has};
 ghost use Rattle.uss_law_dss.specs.Refusals.{refusal_of};
-ghost use Rattle.uss_law_dss.specs.Service.{Service, empty, ovn_of};
-ghost use Rattle.uss_law_dss.specs.Step.{service_step, replies_to, state_after};
+ghost use Rattle.uss_law_dss.specs.Service.{Service, empty, ovn_of, relevant};
+ghost use Rattle.uss_law_dss.specs.Step.{service_step, replies_to, state_after, found_in, is_told};
 ghost use Rattle.uss_law_dss.specs.Effects.{Effect};
 ghost use Rattle.uss_law_dss.specs.Orderly.{IsOrderly};
 ghost use Rattle.uss_law_dss.specs.Fits.{fits};
-ghost use Rattle.uss_law_dss.specs.Transcript.{calls, the_replies};
+ghost use Rattle.uss_law_dss.specs.Transcript.{calls, the_replies, contested, the_contested_replies};
 
 /// The worked calls, and the replies to them in order.
 pub fn worked_calls()
     ensures { replies_to empty calls ≡ the_replies }
+{}
+
+/// Two clients over one area: the key, the references that it lacks, who is told, and what is shown to whom.
+pub fn contested_calls()
+    ensures { replies_to empty contested ≡ the_contested_replies }
+{}
+
+/// Which references are relevant to a change, which of them a query finds, and which tickets are told: those that have
+/// a point in common, of airspace and time.
+pub fn sharing_is_of_points()
+    ensures relevant { (s : Service) (flight : ℕ) (extents : List Volume4D) (r : Recorded)
+        → Has (relevant flight extents s) r ↔ (Has s.references r × (r.reference.flight ≢ flight) × ListsShare r.extents extents) }
+    ensures found { (area : Volume4D) (rs : List Recorded) (r : Recorded) → Has (found_in area rs) r ↔ (Has rs r × Any (λ v. Shares v area) r.extents) }
+    ensures told { (client : List ℕ) (extents : List Volume4D) (t : Ticket)
+        → IsTrue (is_told client extents t) ↔ ((t.manager ≢ client) × Any (λ v. Shares v t.area) extents) }
 {}
 
 /// What a call may do: it lands, removes, makes a ticket, takes a ticket out, or leaves all as it is; each with what
