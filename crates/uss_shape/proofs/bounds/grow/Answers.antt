@@ -1,7 +1,7 @@
 use Rattle.std.proofs.Common.{rules, ◌≡◌, SFits, w64, refl}
 use Rattle.std.specs.Int.{int_min, int_max}
 use Rattle.std.proofs.lemmas.Int.{to_z-of_z}
-use Rattle.uss_shape.proofs.grow.Goals as goal
+use Rattle.uss_shape.proofs.bounds.grow.Goals as goal
 
 pub returns : goal.returns
 returns c =
