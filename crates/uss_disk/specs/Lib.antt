@@ -3,3 +3,4 @@ pub mod Memory
 pub mod Record
 pub mod Left
 pub mod File
+pub mod Crash

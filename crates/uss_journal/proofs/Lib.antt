@@ -1,0 +1,4 @@
+mod Bytes
+mod Chain
+mod Stands
+mod Behind

@@ -1,0 +1,95 @@
+-- What the file of a journal stands for while a record is appended.
+use Rattle.std.proofs.Common.{◌≡◌, ◌≢◌, ◌⊎◌, inl, inr, ⊎_elim, ℕ, zero, suc, ◌+◌, ◌-◌, ◌*◌, ◌<◌, ◌≤◌, ◌^◌, Bool, true, false, List, [], ◌∷◌, ◌++◌, length, get_or, take, drop, arith, refl, sym, subst, ◌∙◌, ap, slice_range, Result, Ok, Err, Option, Some, None, cond, length-append, length-take, eqb, leb, eq-eqb, append_assoc}
+use Rattle.std.proofs.lemmas.Bool.{cases_lt, cases_eq, le-leb}
+use Rattle.std.proofs.lemmas.Bool.Decides.{leb_tells}
+use Rattle.std.proofs.lemmas.List.{take_at, drop_at, get_or_at, take_all, length-take-le}
+use Rattle.std.proofs.lemmas.Nat.{from_be_bytes-to_be_bytes_4}
+use Rattle.std.specs.Int.{w32, from_be_bytes, to_be_bytes}
+use Rattle.uss_disk.specs.Disk.{written, Torn}
+use Rattle.uss_journal.specs.Format.{mark, length_at, next_gate, reached, first_difference, unless_differs, stands_for}
+use Rattle.uss_journal.specs.Gates.{Reaches, last_gate, records_between}
+use Rattle.uss_journal.specs.Journal.{WithOrWithout, staged_of, IsStaged}
+use Rattle.uss_journal.proofs.Bytes.{Agree, agree_less, agree_range, agree_take}
+use Rattle.uss_journal.proofs.Chain.{last_is_later, last_in_file, reached_is, reaches_agree, records_agree, reaches_more, last_more, records_more}
+
+pub same_front : (wanted bytes : List ℕ) (n : ℕ) → take (length wanted) bytes ≡ wanted → first_difference n wanted bytes ≡ None
+same_front [] bytes n same = refl
+same_front (w ∷ wanted) [] n same = absurd (omega (arith, ap length same))
+same_front (w ∷ wanted) (b ∷ bytes) n same =
+    let first : b ≡ w = cc in
+    let rest : take (length wanted) bytes ≡ wanted = cc in
+    ap (λ (t : Bool). cond t (first_difference (n + 1) wanted bytes) (Some n)) (eq-eqb b w first) ∙ same_front wanted bytes (n + 1) rest
+
+none_reached : (file gates : List ℕ) → Reaches file 8 gates → length file ≤ 9 → records_between file 8 gates ≡ []
+none_reached file [] r short = refl
+none_reached file (next ∷ gates) r short = absurd (omega (arith, last_is_later file 8 (next ∷ gates) r, last_in_file file 8 (next ∷ gates) r))
+
+-- a file that begins with the mark, and whose gates lead to a closed one
+pub stands_reached : (file gates : List ℕ) → take 8 file ≡ mark → Reaches file 8 gates → get_or file (last_gate 8 gates) 0 ≡ 0 → stands_for file ≡ Ok (records_between file 8 gates)
+stands_reached file gates marked r closed = elim (leb_tells (length file) 9) [
+  | inl short ↦
+      ap (λ (t : Bool). cond t (Ok []) (unless_differs (first_difference 0 mark file) (reached (length file) file 8))) short.0
+      ∙ ap (λ (rs : List (List ℕ)). Ok rs) (sym (none_reached file gates r short.1))
+  | inr long ↦
+      ap (λ (t : Bool). cond t (Ok []) (unless_differs (first_difference 0 mark file) (reached (length file) file 8))) long.0
+      ∙ ap (λ (d : Option ℕ). unless_differs d (reached (length file) file 8)) (same_front mark file 0 marked)
+      ∙ reached_is file gates 8 (length file) r closed (omega (arith, last_is_later file 8 gates r, last_in_file file 8 gates r))
+]
+
+-- a file of at most nine bytes
+pub stands_short : (file : List ℕ) → length file ≤ 9 → stands_for file ≡ Ok []
+stands_short file short = ap (λ (t : Bool). cond t (Ok []) (unless_differs (first_difference 0 mark file) (reached (length file) file 8))) (le-leb (length file) 9 short)
+
+-- a journal's gates in a file, with the last one, which is closed
+pub record Gated (file gates : List ℕ) (gate : ℕ) : Type 0 where
+  pub marked : take 8 file ≡ mark
+  pub reaches : Reaches file 8 gates
+  pub is_last : gate ≡ last_gate 8 gates
+  pub closed : get_or file gate 0 ≡ 0
+
+module _ (file gates : List ℕ) (gate : ℕ) (gated : Gated file gates gate) where
+  pub gate_low : 8 ≤ gate
+  gate_low = omega (arith, gated.is_last, last_is_later file 8 gates gated.reaches)
+
+  pub gate_inside : gate < length file
+  gate_inside = omega (arith, gated.is_last, last_in_file file 8 gates gated.reaches)
+
+  pub stands_gated : stands_for file ≡ Ok (records_between file 8 gates)
+  stands_gated = stands_reached file gates gated.marked gated.reaches (ap (λ (n : ℕ). get_or file n 0) (sym gated.is_last) ∙ gated.closed)
+
+  -- another file that agrees below the last gate, where that gate is closed too
+  module _ (other : List ℕ) (agree : Agree gate file other) (inside : gate < length other) where
+    other_reaches : Reaches other 8 gates
+    other_reaches =
+        let last = gated.is_last in
+        reaches_agree file other gates 8 gated.reaches (subst (λ (n : ℕ). Agree n file other) last agree) (omega (arith, inside, last))
+
+    other_marked : take 8 other ≡ mark
+    other_marked = agree_take 8 file other (agree_less gate file other agree 8 gate_low) ∙ gated.marked
+
+    other_records : records_between other 8 gates ≡ records_between file 8 gates
+    other_records = records_agree file other gates 8 gated.reaches (subst (λ (n : ℕ). Agree n file other) gated.is_last agree)
+
+    pub gated_agree : get_or other gate 0 ≡ 0 → Gated other gates gate
+    gated_agree closed = record { marked = other_marked; reaches = other_reaches; is_last = gated.is_last; closed = closed }
+
+    pub stands_agree : get_or other gate 0 ≡ 0 → stands_for other ≡ Ok (records_between file 8 gates)
+    stands_agree closed =
+        stands_reached other gates other_marked other_reaches (ap (λ (n : ℕ). get_or other n 0) (sym gated.is_last) ∙ closed)
+        ∙ ap (λ (rs : List (List ℕ)). Ok rs) other_records
+
+    -- and one where it is open, and a whole record with a closed gate stands behind it
+    module _ (more : ℕ) (is_open : get_or other gate 0 ≢ 0) (is_next : more ≡ next_gate other gate) (low : more < length other) (closed : get_or other more 0 ≡ 0) where
+      more_reaches : Reaches other 8 (gates ++ more ∷ [])
+      more_reaches =
+          let last = gated.is_last in
+          reaches_more other more gates 8 other_reaches (λ shut. is_open (ap (λ (n : ℕ). get_or other n 0) last ∙ shut)) (is_next ∙ ap (λ (n : ℕ). next_gate other n) last) low
+
+      pub gated_more : Gated other (gates ++ more ∷ []) more
+      gated_more = record { marked = other_marked; reaches = more_reaches; is_last = sym (last_more other more gates 8); closed = closed }
+
+      pub records_with : records_between other 8 (gates ++ more ∷ []) ≡ records_between file 8 gates ++ slice_range other (gate + 5) more ∷ []
+      records_with =
+          records_more other more gates 8
+          ∙ ap (λ (rs : List (List ℕ)). rs ++ slice_range other (last_gate 8 gates + 5) more ∷ []) other_records
+          ∙ ap (λ (n : ℕ). records_between file 8 gates ++ slice_range other (n + 5) more ∷ []) (sym gated.is_last)
