@@ -7,10 +7,10 @@ use Rattle.std.specs.Int.{w32, from_be_bytes, to_be_bytes}
 use Rattle.uss_disk.specs.Disk.{written, Torn}
 use Rattle.uss_disk.specs.Left.{Torn-written}
 use Rattle.uss_journal.specs.Format.{next_gate, stands_for}
-use Rattle.uss_journal.specs.Gates.{records_between}
+use Rattle.uss_journal.specs.Gates.{records_between, Gated}
 use Rattle.uss_journal.specs.Journal.{WithOrWithout, staged_of, IsStaged}
 use Rattle.uss_journal.proofs.Bytes.{Agree, agree_less, same_range}
-use Rattle.uss_journal.proofs.Stands.{Gated, gate_low, stands_agree, stands_gated, gated_more, records_with}
+use Rattle.uss_journal.proofs.Stands.{gate_low, stands_agree, stands_gated, gated_more, records_with}
 
 -- four parts, the last but one of which is a closed gate
 module _ (front head entry rest : List ℕ) (gate n : ℕ) (front_length : length front ≡ gate + 1) (head_length : length head ≡ 4) (entry_length : length entry ≡ n) where

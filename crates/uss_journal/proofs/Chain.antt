@@ -1,6 +1,6 @@
 -- The gates of a journal, and what its file stands for by them.
 use Rattle.std.proofs.Common.{◌≡◌, ◌≢◌, ℕ, zero, suc, ◌+◌, ◌-◌, ◌*◌, ◌<◌, ◌≤◌, Bool, true, false, List, [], ◌∷◌, ◌++◌, length, get_or, take, drop, arith, refl, sym, subst, ◌∙◌, ap, slice_range, Result, Ok, Err, Some, None, sum_by, cond, length-append, eqb, ltb, eq-eqb}
-use Rattle.std.specs.Prelude.{slice_index}
+use Rattle.std.specs.Prelude.{slice_index, slice_get}
 use Rattle.std.specs.Int.{w32, from_be_bytes}
 use Rattle.std.proofs.lemmas.Bool.{cases_lt, ne_eqb, lt-ltb}
 use Rattle.std.proofs.lemmas.Bool.Decides.{nat_tests}
@@ -75,3 +75,19 @@ module _ (file : List ℕ) (more : ℕ) where
   pub length_records : (gates : List ℕ) (gate : ℕ) → length (records_between file gate gates) ≡ length gates
   length_records [] gate = refl
   length_records (next ∷ gates) gate = ap suc (length_records gates next)
+
+-- the record with a number stands between two gates
+pub record Between (file gates : List ℕ) (gate n : ℕ) : Type 0 where
+  pub start : get_or (gate ∷ gates) n 0 + 5 ≤ get_or gates n 0
+  pub end : get_or gates n 0 < length file
+  pub found : slice_get (records_between file gate gates) n ≡ Some (slice_range file (get_or (gate ∷ gates) n 0 + 5) (get_or gates n 0))
+
+pub between_gates : (file gates : List ℕ) (gate n : ℕ) → Reaches file gate gates → n < length gates → Between file gates gate n
+between_gates file [] gate n r low = absurd (omega arith)
+between_gates file (next ∷ gates) gate zero r low = record { start = omega (arith, r.1); end = omega (arith, last_is_later file next gates r.2, last_in_file file next gates r.2); found = refl }
+between_gates file (next ∷ gates) gate (suc n) r low = let b = between_gates file gates next n r.2 (omega arith) in record { start = b.start; end = b.end; found = b.found }
+
+pub no_record : (file gates : List ℕ) (gate n : ℕ) → length gates ≤ n → slice_get (records_between file gate gates) n ≡ None
+no_record file [] gate n past = refl
+no_record file (next ∷ gates) gate zero past = absurd (omega arith)
+no_record file (next ∷ gates) gate (suc n) past = no_record file gates next n (omega arith)

@@ -7,7 +7,7 @@ use Rattle.std.proofs.lemmas.Nat.{from_be_bytes-to_be_bytes_4}
 use Rattle.std.specs.Int.{w32, from_be_bytes, to_be_bytes}
 use Rattle.uss_disk.specs.Disk.{written, Torn}
 use Rattle.uss_journal.specs.Format.{mark, length_at, next_gate, reached, first_difference, unless_differs, stands_for}
-use Rattle.uss_journal.specs.Gates.{Reaches, last_gate, records_between}
+use Rattle.uss_journal.specs.Gates.{Reaches, last_gate, records_between, Gated}
 use Rattle.uss_journal.specs.Journal.{WithOrWithout, staged_of, IsStaged}
 use Rattle.uss_journal.proofs.Bytes.{Agree, agree_less, agree_range, agree_take}
 use Rattle.uss_journal.proofs.Chain.{last_is_later, last_in_file, reached_is, reaches_agree, records_agree, reaches_more, last_more, records_more}
@@ -39,13 +39,6 @@ stands_reached file gates marked r closed = elim (leb_tells (length file) 9) [
 -- a file of at most nine bytes
 pub stands_short : (file : List ℕ) → length file ≤ 9 → stands_for file ≡ Ok []
 stands_short file short = ap (λ (t : Bool). cond t (Ok []) (unless_differs (first_difference 0 mark file) (reached (length file) file 8))) (le-leb (length file) 9 short)
-
--- a journal's gates in a file, with the last one, which is closed
-pub record Gated (file gates : List ℕ) (gate : ℕ) : Type 0 where
-  pub marked : take 8 file ≡ mark
-  pub reaches : Reaches file 8 gates
-  pub is_last : gate ≡ last_gate 8 gates
-  pub closed : get_or file gate 0 ≡ 0
 
 module _ (file gates : List ℕ) (gate : ℕ) (gated : Gated file gates gate) where
   pub gate_low : 8 ≤ gate

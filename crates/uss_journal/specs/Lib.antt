@@ -1,3 +1,5 @@
 pub mod Format
 pub mod Gates
 pub mod Journal
+pub mod Refusal
+pub mod Sound
