@@ -1,8 +1,8 @@
 -- Files that agree in their first bytes.
-use Rattle.std.proofs.Common.{◌≡◌, ℕ, zero, suc, ◌+◌, ◌-◌, ◌<◌, ◌≤◌, List, [], ◌∷◌, ◌++◌, length, get_or, take, drop, arith, refl, sym, ◌∙◌, ap, slice_range, length-take, get_or-take}
-use Rattle.std.proofs.lemmas.List.{same_lists, get_or_default}
+use Rattle.std.proofs.Common.{◌≡◌, ℕ, zero, suc, ◌+◌, ◌-◌, ◌<◌, ◌≤◌, List, [], ◌∷◌, ◌++◌, length, get_or, take, drop, arith, refl, sym, ◌∙◌, ap, slice_range, length-take, get_or-take, take-append-drop}
+use Rattle.std.proofs.lemmas.List.{same_lists, get_or_default, take-take}
 use Rattle.std.proofs.lemmas.List.Edits.{length-between, get_or-between}
-use Rattle.std.proofs.lemmas.Slice.{between_from_start}
+use Rattle.std.proofs.lemmas.Slice.{between_from_start, between_is}
 
 -- the first n bytes of both files are there, and are the same
 pub record Agree (n : ℕ) (a b : List ℕ) : Type 0 where
@@ -33,3 +33,13 @@ module _ (n : ℕ) (a b : List ℕ) (agree : Agree n a b) where
 
   pub agree_take : take n b ≡ take n a
   agree_take = sym (between_from_start b n) ∙ agree_range 0 n (omega arith) ∙ between_from_start a n
+
+-- a front of a file, with the bytes that stand behind it there
+pub front_more : (file old new : List ℕ) (have upto : ℕ) → length old ≡ have → have ≤ upto → length new ≡ upto → take have new ≡ old → drop have new ≡ slice_range file have upto → take (length old) file ≡ old
+    → take (length new) file ≡ new
+front_more file old new have upto had le size front rest is_front =
+    ap (λ (n : ℕ). take n file) size
+    ∙ sym (take-append-drop have (take upto file))
+    ∙ ap (λ (l : List ℕ). l ++ drop have (take upto file)) (take-take have upto file le ∙ ap (λ (n : ℕ). take n file) (sym had) ∙ is_front ∙ sym front)
+    ∙ ap (λ (l : List ℕ). take have new ++ l) (sym (between_is file have upto) ∙ sym rest)
+    ∙ take-append-drop have new

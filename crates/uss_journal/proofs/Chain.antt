@@ -2,9 +2,10 @@
 use Rattle.std.proofs.Common.{◌≡◌, ◌≢◌, ℕ, zero, suc, ◌+◌, ◌-◌, ◌*◌, ◌<◌, ◌≤◌, Bool, true, false, List, [], ◌∷◌, ◌++◌, length, get_or, take, drop, arith, refl, sym, subst, ◌∙◌, ap, slice_range, Result, Ok, Err, Some, None, sum_by, cond, length-append, eqb, ltb, eq-eqb}
 use Rattle.std.specs.Prelude.{slice_index, slice_get}
 use Rattle.std.specs.Int.{w32, from_be_bytes}
-use Rattle.std.proofs.lemmas.Bool.{cases_lt, ne_eqb, lt-ltb}
+use Rattle.std.proofs.lemmas.Bool.{cases_lt, ne_eqb, lt-ltb, le-ltb}
 use Rattle.std.proofs.lemmas.Bool.Decides.{nat_tests}
 use Rattle.std.proofs.lemmas.List.Edits.{length-between}
+use Rattle.std.proofs.lemmas.List.Sums.{sum_by-cons}
 use Rattle.uss_journal.specs.Format.{mark, length_at, next_gate, record_at, with_first, reached, first_difference, unless_differs, stands_for, used_of}
 use Rattle.uss_journal.specs.Gates.{Reaches, last_gate, records_between}
 use Rattle.uss_journal.proofs.Bytes.{Agree, agree_less, agree_range}
@@ -91,3 +92,30 @@ pub no_record : (file gates : List ℕ) (gate n : ℕ) → length gates ≤ n �
 no_record file [] gate n past = refl
 no_record file (next ∷ gates) gate zero past = absurd (omega arith)
 no_record file (next ∷ gates) gate (suc n) past = no_record file gates next n (omega arith)
+
+-- the bytes up to a gate are those of the records before it, and five for each
+pub used_between : (file gates : List ℕ) (gate : ℕ) → Reaches file gate gates → gate + sum_by (λ (r : List ℕ). 5 + length r) (records_between file gate gates) ≡ last_gate gate gates
+used_between file [] gate r = omega arith
+used_between file (next ∷ gates) gate r =
+    let low : next ≤ length file = omega (arith, last_is_later file next gates r.2, last_in_file file next gates r.2) in
+    let size = length-between file (gate + 5) next low in
+    let split = sum_by-cons (λ (r : List ℕ). 5 + length r) (slice_range file (gate + 5) next) (records_between file next gates) in
+    omega (arith, used_between file gates next r.2, r.1, size, split)
+
+-- the last gate is open, and its record runs past the end
+pub reached_past : (file gates : List ℕ) (gate steps : ℕ) → Reaches file gate gates → get_or file (last_gate gate gates) 0 ≢ 0 → length file ≤ next_gate file (last_gate gate gates) → length gates < steps
+    → reached steps file gate ≡ Err (last_gate gate gates)
+reached_past file gates gate zero r is_open past enough = absurd (omega arith)
+reached_past file [] gate (suc steps) r is_open past enough =
+    let shut : eqb (get_or file gate 0) 0 ≡ false = ne_eqb _ _ is_open in
+    let outside : ltb (next_gate file gate) (length file) ≡ false = le-ltb (next_gate file gate) (length file) past in
+    ap (λ (b : Bool). cond b (Ok []) (cond (ltb (next_gate file gate) (length file)) (with_first (record_at file gate) (reached steps file (next_gate file gate))) (Err gate))) shut
+    ∙ ap (λ (b : Bool). cond b (with_first (record_at file gate) (reached steps file (next_gate file gate))) (Err gate)) outside
+reached_past file (next ∷ gates) gate (suc steps) r is_open past enough =
+    let shut : eqb (get_or file gate 0) 0 ≡ false = ne_eqb _ _ r.0 in
+    let low : next < length file = omega (arith, last_in_file file next gates r.2, last_is_later file next gates r.2) in
+    let inside : ltb (next_gate file gate) (length file) ≡ true = lt-ltb _ _ (subst (λ (n : ℕ). n < length file) r.1 low) in
+    let rest : reached steps file (next_gate file gate) ≡ Err (last_gate next gates) = subst (λ (n : ℕ). reached steps file n ≡ Err (last_gate next gates)) r.1 (reached_past file gates next steps r.2 is_open past (omega arith)) in
+    ap (λ (b : Bool). cond b (Ok []) (cond (ltb (next_gate file gate) (length file)) (with_first (record_at file gate) (reached steps file (next_gate file gate))) (Err gate))) shut
+    ∙ ap (λ (b : Bool). cond b (with_first (record_at file gate) (reached steps file (next_gate file gate))) (Err gate)) inside
+    ∙ ap (λ (r : Result (List (List ℕ)) ℕ). with_first (record_at file gate) r) rest

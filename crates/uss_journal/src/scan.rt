@@ -1,5 +1,6 @@
 // A journal's file is read in large pieces, in one pass.
-ghost use Rattle.std.specs.Prelude.{◌≡◌, ◌≢◌, ◌↔◌, ◌+◌, ◌≤◌, ◌<◌, List, [], ℕ, length, take, vec_len, slice_index, OnOk, IfOk, IfErr, MatchResult, MatchOption, Some, None};
+ghost use Rattle.std.specs.Prelude.{◌≡◌, ◌≢◌, ◌↔◌, ◌+◌, ◌≤◌, ◌<◌, List, [], ℕ, length, take, drop, slice_range, vec_len, slice_index, OnOk, IfOk, IfErr, MatchResult, MatchOption, Some, None};
+ghost use Rattle.uss_cause.specs.Cause.{Counts};
 ghost use Rattle.uss_disk.specs.Disk.{bytes_of};
 ghost use Rattle.uss_journal.specs.Format.{mark, first_difference, next_gate, length_at};
 ghost use Rattle.uss_journal.specs.Gates.{Gated, Leads, records_between};
@@ -10,7 +11,7 @@ ghost use Rattle.uss_journal.specs.Sound.{OnlyLooked, IsFront};
 use crate::JournalRefusal;
 use crate::known::{FIRST_GATE, Known, NEW_JOURNAL};
 use std::alloc::Global;
-use uss_disk::Disk;
+use uss_disk::{Disk, DiskFault};
 
 // A file is read in pieces of this many bytes, or of a record where that is longer.
 const PIECE: usize = 1 << 20;
@@ -87,10 +88,14 @@ fn step<D: Disk>(disk: &mut D, known: &mut Known, len: u64) -> Result<(), Journa
     ensures refused_by { D.is_honest disk.old → IsFront known.old.bytes.items (bytes_of (D.reads disk.old))
         → IfErr result (RefusedBy (bytes_of (D.reads disk.old))) }
 {
-    let gate = next(disk, &mut known.bytes, len, known.last)?;
-    known.gates.push(gate)?;
-    known.last = gate;
-    Ok(())
+    match next(disk, &mut known.bytes, len, known.last) {
+        Ok(gate) => {
+            known.gates.push(gate)?;
+            known.last = gate;
+            Ok(())
+        }
+        Err(refusal) => Err(refusal),
+    }
 }
 
 // The gate behind the record whose gate this is, which is read up to it.
@@ -164,6 +169,18 @@ fn read_up_to<D: Disk>(
     }
     let ahead = have.saturating_add(PIECE).min(len as usize);
     bytes.resize(end.max(ahead), 0)?;
-    disk.read(have as u64, &mut bytes[have..])?;
+    read_behind(disk, bytes, have)?;
     Ok(())
+}
+
+// Reads what stands in the file from this place on, to the end of the bytes.
+fn read_behind<D: Disk>(disk: &mut D, bytes: &mut [u8], at: usize) -> Result<(), DiskFault>
+    requires at { at ≤ length bytes.old }
+    requires inside { D.is_honest disk.old → length bytes.old ≤ length (bytes_of (D.reads disk.old)) }
+    ensures looked { OnlyLooked D.reads D.may_leave D.moment D.left_since D.is_honest D.fault_count disk.old disk.new }
+    ensures count { Counts (D.fault_count disk.old) (D.fault_count disk.new) result }
+    ensures front { take at bytes.new ≡ take at bytes.old }
+    ensures rest { D.is_honest disk.old → OnOk result (drop at bytes.new ≡ slice_range (bytes_of (D.reads disk.old)) at (length bytes.old)) }
+{
+    disk.read(at as u64, &mut bytes[at..])
 }
