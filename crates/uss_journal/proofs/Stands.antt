@@ -173,3 +173,10 @@ gated_cut file gates gate leads closed =
       is_last = leads.is_last;
       closed = agree.same gate (omega arith) ∙ closed;
     }
+
+-- a file that begins with the bytes up to a closed gate stands for the records before it
+pub stands_front : (known file gates : List ℕ) (gate : ℕ) → Gated known gates gate → take (length known) file ≡ known → stands_for file ≡ Ok (records_between known 8 gates)
+stands_front known file gates gate gated front =
+    let agree = front_agrees known file front in
+    let inside = gate_inside known gates gate gated in
+    stands_agree known gates gate gated file (agree_less (length known) known file agree gate (omega (arith, inside))) (omega (arith, inside, agree.in_second)) (agree.same gate inside ∙ gated.closed)
