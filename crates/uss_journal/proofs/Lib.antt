@@ -1,4 +1,5 @@
+mod Append
+mod Behind
 mod Bytes
 mod Chain
 mod Stands
-mod Behind

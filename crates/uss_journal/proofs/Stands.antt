@@ -62,7 +62,7 @@ module _ (file gates : List ℕ) (gate : ℕ) (gated : Gated file gates gate) wh
     other_marked : take 8 other ≡ mark
     other_marked = agree_take 8 file other (agree_less gate file other agree 8 gate_low) ∙ gated.marked
 
-    other_records : records_between other 8 gates ≡ records_between file 8 gates
+    pub other_records : records_between other 8 gates ≡ records_between file 8 gates
     other_records = records_agree file other gates 8 gated.reaches (subst (λ (n : ℕ). Agree n file other) gated.is_last agree)
 
     pub gated_agree : get_or other gate 0 ≡ 0 → Gated other gates gate
@@ -142,9 +142,9 @@ module _ (a b gates : List ℕ) (gate : ℕ) (leads : Leads a gates gate) (front
       ap (λ (t : Bool). cond t (Ok []) (unless_differs (first_difference 0 mark b) (reached (length b) b 8))) (lt-leb (length b) 9 long)
       ∙ ap (λ (d : Option ℕ). unless_differs d (reached (length b) b 8)) (same_front mark b 0 leads_agree.marked)
       ∙ reached_past b gates 8 (length b) leads_agree.reaches
-        (λ shut. is_open (sym same_gate ∙ ap (λ (n : ℕ). get_or b n 0) last ∙ shut))
-        (subst (λ (n : ℕ). length b ≤ next_gate b n) last past)
-        (omega (arith, last_is_later b 8 gates leads_agree.reaches, last_in_file b 8 gates leads_agree.reaches))
+      (λ shut. is_open (sym same_gate ∙ ap (λ (n : ℕ). get_or b n 0) last ∙ shut))
+      (subst (λ (n : ℕ). length b ≤ next_gate b n) last past)
+      (omega (arith, last_is_later b 8 gates leads_agree.reaches, last_in_file b 8 gates leads_agree.reaches))
       ∙ ap (λ (n : ℕ). Err n) (sym last)
 
 pub refused_past : (a b gates : List ℕ) (gate : ℕ) → Leads a gates gate → take (length a) b ≡ a → get_or a gate 0 ≢ 0 → 9 < length b → (refusal : JournalRefusal) → PastTheEnd b gate refusal → RefusedBy b refusal

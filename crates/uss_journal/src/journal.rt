@@ -7,7 +7,7 @@ ghost use Rattle.uss_journal.specs.Journal.{StandsFor, WithOrWithout};
 
 use crate::known::Known;
 use crate::load::load;
-use crate::staged::write_behind;
+use crate::staged::commit;
 use crate::{JournalRefusal, MountRefusal};
 use std::alloc::Global;
 use std::marker::Model;
@@ -94,12 +94,8 @@ impl<D: Disk> Journal<D> {
             return Err(JournalRefusal::JournalFull);
         }
         self.known.stage(bytes)?;
-        let gate = self.known.last;
-        match write_behind(&mut self.disk, gate as u64, &self.known.bytes[gate + 1..]) {
-            Ok(()) => {
-                self.known.accept();
-                Ok(())
-            }
+        match commit(&mut self.disk, &mut self.known) {
+            Ok(()) => Ok(()),
             Err(_) => {
                 self.spent = Some(self.disk.faults());
                 Err(JournalRefusal::DiskFault)

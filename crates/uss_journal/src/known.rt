@@ -4,6 +4,7 @@ ghost use Rattle.std.specs.Option.{option_copied};
 ghost use Rattle.uss_journal.specs.Format.{new_journal, used_of};
 ghost use Rattle.uss_journal.specs.Gates.{records_between, Gated};
 ghost use Rattle.uss_journal.specs.Journal.{staged_of};
+ghost use Rattle.uss_journal.specs.Known.{IsAccepted};
 
 use std::alloc::{AllocError, Global};
 
@@ -93,9 +94,7 @@ impl Known {
     pub(crate) fn accept(&mut self)
         requires behind { self.old.last + 1 < vec_len self.old.bytes }
         requires room { vec_len self.old.gates < vec_capacity self.old.gates }
-        ensures bytes { self.new.bytes.items ≡ slice_set self.old.bytes.items self.old.last 1 }
-        ensures gates { self.new.gates.items ≡ self.old.gates.items ++ (vec_len self.old.bytes - 1) ∷ [] }
-        ensures last { self.new.last ≡ vec_len self.old.bytes - 1 }
+        ensures { IsAccepted self.old self.new }
     {
         let gate = self.bytes.len() - 1;
         self.bytes[self.last] = 1;

@@ -13,9 +13,9 @@ returns-then-bytes-i c =
     let front : get_or new_journal i 0 ≡ get_or mark i 0 = get_or_append_left mark (0 ∷ []) 0 i low in
     let other : get_or c.args.bytes.now i 0 ≢ get_or mark i 0 = λ same. c.if-bytes-i.true (same ∙ sym front) in
     sym (
-      c.loop-i.invariant
-      ∙ first_difference_more c.args.bytes.now i low inside
-      ∙ ap (λ (b : Bool). cond b (first_difference (i + 1) (drop (i + 1) mark) (drop (i + 1) c.args.bytes.now)) (Some i)) (ne_eqb _ _ other)
+    c.loop-i.invariant
+    ∙ first_difference_more c.args.bytes.now i low inside
+    ∙ ap (λ (b : Bool). cond b (first_difference (i + 1) (drop (i + 1) mark) (drop (i + 1) c.args.bytes.now)) (Some i)) (ne_eqb _ _ other)
     )
 
 pub loop-i-preserved : goal.loop-i-preserved
