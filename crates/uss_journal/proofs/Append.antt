@@ -1,7 +1,7 @@
 -- What a journal knows, and what its file stands for, after a record was tried or appended.
-use Rattle.std.proofs.Common.{◌≡◌, ◌≢◌, ◌⊎◌, inl, inr, ⊎_elim, ℕ, suc, ◌+◌, ◌-◌, ◌<◌, ◌≤◌, ◌^◌, Bool, true, false, List, [], ◌∷◌, ◌++◌, length, get_or, set, take, drop, arith, refl, sym, subst, ◌∙◌, ap, slice_range, Option, Some, None, Ok, cond, ltb, vec_len, length-append, length-set, get_or-set_same, get_or-set_other}
+use Rattle.std.proofs.Common.{◌≡◌, ◌≢◌, inl, ⊎_elim, ℕ, ◌+◌, ◌-◌, ◌<◌, ◌≤◌, ◌^◌, Bool, List, [], ◌∷◌, ◌++◌, length, get_or, set, take, drop, arith, refl, sym, subst, ◌∙◌, ap, slice_range, Option, Some, None, Ok, cond, vec_len, length-append, length-set, get_or-set_same, get_or-set_other}
 use Rattle.std.proofs.lemmas.Bool.{cases_eq, cases_lt, lt-ltb, le-ltb}
-use Rattle.std.proofs.lemmas.List.{take_at, drop_at, take_all, drop_all, append-nil, get_or_append_left, get_or_at, length-take-le}
+use Rattle.std.proofs.lemmas.List.{drop_at, take_all, drop_all, append-nil, get_or_append_left, get_or_at, length-take-le}
 use Rattle.std.specs.Int.{w32, to_be_bytes}
 use Rattle.uss_disk.specs.Disk.{bytes_of, written, Torn, Only, CrashLeaves}
 use Rattle.uss_disk.specs.Crash.{crash_weaker}
@@ -12,9 +12,8 @@ use Rattle.uss_journal.specs.Journal.{StandsFor, WithOrWithout, staged_of, IsSta
 use Rattle.uss_journal.specs.Sound.{IsSound, IsSettled}
 use Rattle.uss_journal.specs.Known.{IsAccepted}
 use Rattle.uss_journal.specs.declared.known.Known.{Known}
-use Rattle.uss_journal.proofs.Bytes.{Agree, agree_less, agree_take, same_range}
-use Rattle.uss_journal.proofs.Chain.{records_agree}
-use Rattle.uss_journal.proofs.Stands.{gate_inside, gated_agree, other_records, stands_front, front_agrees}
+use Rattle.uss_journal.proofs.Bytes.{Agree, agree_less, agree_take}
+use Rattle.uss_journal.proofs.Stands.{gated_agree, other_records, stands_front, front_agrees}
 use Rattle.uss_journal.proofs.Behind.{stands_staged, gated_opened, records_opened, parts_entry}
 
 -- the one byte that was written
@@ -220,7 +219,7 @@ pub crash_appended : {D : Type 0} (moment : D → ℕ) (left_since : D → ℕ �
 crash_appended moment left_since old new known gates gate gated whole entry small file front staged last is_staged is_last leaves =
     crash_weaker moment left_since old new (IsStaged last (drop (last + 1) staged) file) (WithOrWithout (records_between known 8 gates) (Some entry))
     (λ image left. crash_stands known gates gate gated whole entry small file front image
-      (subst (λ (s : List ℕ). IsStaged gate (drop (gate + 1) s) file image) is_staged (subst (λ (n : ℕ). IsStaged n (drop (n + 1) staged) file image) is_last left)))
+    (subst (λ (s : List ℕ). IsStaged gate (drop (gate + 1) s) file image) is_staged (subst (λ (n : ℕ). IsStaged n (drop (n + 1) staged) file image) is_last left)))
     leaves
 
 -- the file after an append that was done, by what was staged
@@ -230,10 +229,10 @@ pub settled_appended : (known gates : List ℕ) (gate : ℕ) (gated : Gated know
     → IsSettled (set (known ++ staged_of entry) gate 1) now may_leave
 settled_appended known gates gate gated whole entry small file front staged last is_staged is_last now may_leave is_now durable =
     let is_opened : now ≡ written gate (1 ∷ []) (written (gate + 1) (staged_of entry) file) =
-        is_now
-        ∙ ap (λ (n : ℕ). written n (1 ∷ []) (written (n + 1) (drop (n + 1) staged) file)) is_last
-        ∙ ap (λ (s : List ℕ). written gate (1 ∷ []) (written (gate + 1) (drop (gate + 1) s) file)) is_staged
-        ∙ ap (λ (s : List ℕ). written gate (1 ∷ []) (written (gate + 1) s file)) (staged_is known gates gate gated whole entry small) in
+    is_now
+    ∙ ap (λ (n : ℕ). written n (1 ∷ []) (written (n + 1) (drop (n + 1) staged) file)) is_last
+    ∙ ap (λ (s : List ℕ). written gate (1 ∷ []) (written (gate + 1) (drop (gate + 1) s) file)) is_staged
+    ∙ ap (λ (s : List ℕ). written gate (1 ∷ []) (written (gate + 1) s file)) (staged_is known gates gate gated whole entry small) in
     record {
       front = subst (λ (f : List ℕ). take (length (set (known ++ staged_of entry) gate 1)) f ≡ set (known ++ staged_of entry) gate 1) (sym is_opened) (front_opened known gates gate gated whole entry small file front);
       durable = durable;
@@ -260,15 +259,14 @@ now_known known gates gate gated whole entry small staged new is_bytes is_gates 
 -- its records, and that nothing is being tried
 pub known_records : (known gates : List ℕ) (gate : ℕ) (gated : Gated known gates gate) (whole : length known ≡ gate + 1) (entry : List ℕ) (small : length entry < 2 ^ 32) (bytes' gates' : List ℕ) (last' : ℕ)
     → NowKnown known gates gate entry bytes' gates' last' → (records_between bytes' 8 gates' ≡ records_between known 8 gates ++ entry ∷ []) × (tried_of bytes' last' ≡ None)
-known_records known gates gate gated whole entry small bytes' gates' last' now =
-    (
-      ap (λ (b : List ℕ). records_between b 8 gates') now.is_bytes
+known_records known gates gate gated whole entry small bytes' gates' last' now = (
+  ap (λ (b : List ℕ). records_between b 8 gates') now.is_bytes
       ∙ ap (λ (gs : List ℕ). records_between (set (known ++ staged_of entry) gate 1) 8 gs) now.is_gates
       ∙ records_appended known gates gate gated whole entry small,
-      ap (λ (b : List ℕ). tried_of b last') now.is_bytes
+  ap (λ (b : List ℕ). tried_of b last') now.is_bytes
       ∙ ap (λ (n : ℕ). tried_of (set (known ++ staged_of entry) gate 1) n) now.is_last
       ∙ none_tried known gates gate gated whole entry small,
-    )
+)
 
 -- what a crash then leaves
 pub stands_known : (known gates : List ℕ) (gate : ℕ) (gated : Gated known gates gate) (whole : length known ≡ gate + 1) (entry : List ℕ) (small : length entry < 2 ^ 32) (bytes' gates' : List ℕ) (last' : ℕ)
@@ -283,11 +281,10 @@ stands_known known gates gate gated whole entry small bytes' gates' last' now fi
 -- a record that was staged and isn't known: the records are those before it
 pub staged_records : (known gates : List ℕ) (gate : ℕ) (gated : Gated known gates gate) (whole : length known ≡ gate + 1) (entry : List ℕ) (small : length entry < 2 ^ 32) (bytes' gates' : List ℕ) (last' : ℕ)
     → bytes' ≡ known ++ staged_of entry → gates' ≡ gates → last' ≡ gate → (records_between bytes' 8 gates' ≡ records_between known 8 gates) × (tried_of bytes' last' ≡ Some entry)
-staged_records known gates gate gated whole entry small bytes' gates' last' is_bytes is_gates is_last =
-    (
-      ap (λ (b : List ℕ). records_between b 8 gates') is_bytes ∙ ap (λ (gs : List ℕ). records_between (known ++ staged_of entry) 8 gs) is_gates ∙ records_tried known gates gate gated whole entry small,
-      ap (λ (b : List ℕ). tried_of b last') is_bytes ∙ ap (λ (n : ℕ). tried_of (known ++ staged_of entry) n) is_last ∙ tried_is known gates gate gated whole entry small,
-    )
+staged_records known gates gate gated whole entry small bytes' gates' last' is_bytes is_gates is_last = (
+  ap (λ (b : List ℕ). records_between b 8 gates') is_bytes ∙ ap (λ (gs : List ℕ). records_between (known ++ staged_of entry) 8 gs) is_gates ∙ records_tried known gates gate gated whole entry small,
+  ap (λ (b : List ℕ). tried_of b last') is_bytes ∙ ap (λ (n : ℕ). tried_of (known ++ staged_of entry) n) is_last ∙ tried_is known gates gate gated whole entry small,
+)
 
 -- no value is there where none of them is it
 pub none_from_not : (o : Option ℕ) → ((x : ℕ) → o ≡ Some x → ⊥) → o ≡ None

@@ -1,5 +1,5 @@
 -- The file of a journal behind whose last gate a record was written, and what it stands for.
-use Rattle.std.proofs.Common.{◌≡◌, ◌≢◌, ◌⊎◌, inl, inr, ⊎_elim, ℕ, suc, ◌+◌, ◌-◌, ◌<◌, ◌≤◌, ◌^◌, max, List, [], ◌∷◌, ◌++◌, length, get_or, take, drop, arith, refl, sym, subst, ◌∙◌, ap, slice_range, Ok, Some, length-append, append_assoc}
+use Rattle.std.proofs.Common.{◌≡◌, ◌≢◌, inl, inr, ⊎_elim, ℕ, ◌+◌, ◌-◌, ◌<◌, ◌≤◌, ◌^◌, List, [], ◌∷◌, ◌++◌, length, get_or, take, drop, arith, refl, sym, ◌∙◌, ap, slice_range, Ok, Some, length-append, append_assoc}
 use Rattle.std.proofs.lemmas.Bool.{cases_eq}
 use Rattle.std.proofs.lemmas.List.{take_at, drop_at, get_or_at, length-take-le}
 use Rattle.std.proofs.lemmas.Nat.{from_be_bytes-to_be_bytes_4}
@@ -10,7 +10,7 @@ use Rattle.uss_journal.specs.Format.{next_gate, stands_for}
 use Rattle.uss_journal.specs.Gates.{records_between, Gated}
 use Rattle.uss_journal.specs.Journal.{WithOrWithout, staged_of, IsStaged}
 use Rattle.uss_journal.proofs.Bytes.{Agree, agree_less, same_range}
-use Rattle.uss_journal.proofs.Stands.{gate_low, stands_agree, stands_gated, gated_more, records_with}
+use Rattle.uss_journal.proofs.Stands.{stands_agree, stands_gated, gated_more, records_with}
 
 -- four parts, the last but one of which is a closed gate
 module _ (front head entry rest : List ℕ) (gate n : ℕ) (front_length : length front ≡ gate + 1) (head_length : length head ≡ 4) (entry_length : length entry ≡ n) where

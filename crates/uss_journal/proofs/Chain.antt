@@ -1,14 +1,13 @@
 -- The gates of a journal, and what its file stands for by them.
-use Rattle.std.proofs.Common.{◌≡◌, ◌≢◌, ℕ, zero, suc, ◌+◌, ◌-◌, ◌*◌, ◌<◌, ◌≤◌, Bool, true, false, List, [], ◌∷◌, ◌++◌, length, get_or, take, drop, arith, refl, sym, subst, ◌∙◌, ap, slice_range, Result, Ok, Err, Some, None, sum_by, cond, length-append, eqb, ltb, eq-eqb}
-use Rattle.std.specs.Prelude.{slice_index, slice_get}
+use Rattle.std.proofs.Common.{◌≡◌, ◌≢◌, ℕ, zero, suc, ◌+◌, ◌*◌, ◌<◌, ◌≤◌, Bool, true, false, List, [], ◌∷◌, ◌++◌, length, get_or, arith, refl, sym, subst, ◌∙◌, ap, slice_range, Result, Ok, Err, Some, None, sum_by, cond, eqb, ltb, eq-eqb}
+use Rattle.std.specs.Prelude.{slice_get}
 use Rattle.std.specs.Int.{w32, from_be_bytes}
-use Rattle.std.proofs.lemmas.Bool.{cases_lt, ne_eqb, lt-ltb, le-ltb}
-use Rattle.std.proofs.lemmas.Bool.Decides.{nat_tests}
+use Rattle.std.proofs.lemmas.Bool.{ne_eqb, lt-ltb, le-ltb}
 use Rattle.std.proofs.lemmas.List.Edits.{length-between}
 use Rattle.std.proofs.lemmas.List.Sums.{sum_by-cons}
-use Rattle.uss_journal.specs.Format.{mark, length_at, next_gate, record_at, with_first, reached, first_difference, unless_differs, stands_for, used_of}
+use Rattle.uss_journal.specs.Format.{next_gate, record_at, with_first, reached}
 use Rattle.uss_journal.specs.Gates.{Reaches, last_gate, records_between}
-use Rattle.uss_journal.proofs.Bytes.{Agree, agree_less, agree_range}
+use Rattle.uss_journal.proofs.Bytes.{Agree, agree_range}
 
 pub last_is_later : (file : List ℕ) (gate : ℕ) (gates : List ℕ) → Reaches file gate gates → gate + 5 * length gates ≤ last_gate gate gates
 last_is_later file gate [] r = omega arith

@@ -1,17 +1,14 @@
 -- What the file of a journal stands for while a record is appended.
-use Rattle.std.proofs.Common.{◌≡◌, ◌≢◌, ◌⊎◌, inl, inr, ⊎_elim, ℕ, zero, suc, ◌+◌, ◌-◌, ◌*◌, ◌<◌, ◌≤◌, ◌^◌, Bool, true, false, List, [], ◌∷◌, ◌++◌, length, get_or, take, drop, arith, refl, sym, subst, ◌∙◌, ap, slice_range, Result, Ok, Err, Option, Some, None, cond, length-append, length-take, get_or-take, eqb, leb, eq-eqb, append_assoc}
+use Rattle.std.proofs.Common.{◌≡◌, ◌≢◌, inl, inr, ℕ, ◌+◌, ◌<◌, ◌≤◌, Bool, List, [], ◌∷◌, ◌++◌, length, get_or, take, drop, arith, refl, sym, subst, ◌∙◌, ap, slice_range, Ok, Err, Option, Some, None, cond, length-take, get_or-take, eqb, eq-eqb}
 use Rattle.std.proofs.lemmas.Bool.{le-leb, lt-leb}
 use Rattle.std.proofs.lemmas.Bool.Decides.{leb_tells}
 use Rattle.std.proofs.lemmas.List.{drop_more, length-take-le}
-use Rattle.std.proofs.lemmas.Nat.{from_be_bytes-to_be_bytes_4}
-use Rattle.std.specs.Int.{w32, from_be_bytes, to_be_bytes}
-use Rattle.uss_disk.specs.Disk.{written, Torn}
-use Rattle.uss_journal.specs.Format.{mark, length_at, next_gate, reached, first_difference, unless_differs, stands_for}
+use Rattle.uss_journal.specs.Format.{mark, next_gate, reached, first_difference, unless_differs, stands_for}
 use Rattle.uss_journal.specs.Gates.{Reaches, last_gate, records_between, Gated, Leads}
 use Rattle.uss_journal.specs.Refusal.{RefusedBy, PastTheEnd}
 use Rattle.uss_journal.specs.declared.refusal.JournalRefusal.{JournalRefusal}
 use Rattle.uss_journal.specs.declared.refusal.JournalRefusal.TheVariants.{DiskFault, JournalFull, NotAJournal, Spent, Memory}
-use Rattle.uss_journal.proofs.Bytes.{Agree, agree_less, agree_range, agree_take}
+use Rattle.uss_journal.proofs.Bytes.{Agree, agree_less, agree_take}
 use Rattle.uss_journal.proofs.Chain.{last_is_later, last_in_file, reached_is, reaches_agree, records_agree, reaches_more, last_more, records_more, reached_past}
 
 pub same_front : (wanted bytes : List ℕ) (n : ℕ) → take (length wanted) bytes ≡ wanted → first_difference n wanted bytes ≡ None

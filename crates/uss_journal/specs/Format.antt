@@ -3,8 +3,8 @@
 -- The file begins with the eight bytes USSJ0001 and a gate at place 8. A gate is one byte, closed where it is 0 and open
 -- otherwise. Behind an open gate stands a record: its length in four bytes, the highest first, its bytes, and then the
 -- next gate. The records are those reached through open gates. What stands behind the first closed gate means nothing.
-use Rattle.std.specs.Prelude.{◌≡◌, ℕ, suc, zero, ◌+◌, Bool, List, [], ◌∷◌, ◌++◌, length, slice_index, slice_range, sum_by, Option, Some, None, Result, Ok, Err, if◌then◌else◌, nat_le, nat_lt, ◌==◌}
-use Rattle.std.specs.Int.{w32, from_be_bytes, to_be_bytes}
+use Rattle.std.specs.Prelude.{ℕ, suc, zero, ◌+◌, List, [], ◌∷◌, ◌++◌, length, slice_index, slice_range, sum_by, Option, Some, None, Result, Ok, Err, if◌then◌else◌, nat_le, nat_lt, ◌==◌}
+use Rattle.std.specs.Int.{w32, from_be_bytes}
 
 -- the first eight bytes of a journal: the text USSJ0001
 abbrev pub mark : List ℕ

@@ -1,5 +1,5 @@
 -- What a journal is seen as, and what a crash may leave of it. This project's own.
-use Rattle.std.specs.Prelude.{◌≡◌, ◌⊎◌, ℕ, ◌+◌, List, [], ◌∷◌, ◌++◌, length, Option, IsSomeAnd, Result, Ok}
+use Rattle.std.specs.Prelude.{◌≡◌, ◌⊎◌, ℕ, ◌+◌, List, [], ◌∷◌, ◌++◌, length, Option, IsSomeAnd, Ok}
 use Rattle.std.specs.Int.{w32, to_be_bytes}
 use Rattle.uss_disk.specs.Disk.{written, Torn}
 use Rattle.uss_journal.specs.Format.{stands_for}

@@ -1,5 +1,5 @@
 -- The answers of a journal, each with its cause. This project's own.
-use Rattle.std.specs.Prelude.{◌≡◌, ℕ, ◌+◌, ◌<◌, ◌≤◌, List, [], ◌∷◌, ◌++◌, length, Option, Some, None, Result, Ok, Err}
+use Rattle.std.specs.Prelude.{◌≡◌, ℕ, ◌+◌, ◌<◌, ◌≤◌, List, [], ◌∷◌, ◌++◌, length, Some, None, Result, Ok, Err}
 use Rattle.uss_cause.specs.Cause.{Rose}
 use Rattle.uss_journal.specs.Format.{limit, used_of, stands_for, next_gate}
 use Rattle.uss_journal.specs.Journal.{JournalView}
@@ -90,3 +90,11 @@ PastTheEnd file gate DiskFault = Unit {0}
 PastTheEnd file gate Memory = Unit {0}
 PastTheEnd file gate JournalFull = Unit {0}
 PastTheEnd file gate (Spent count) = Unit {0}
+
+-- a fact that holds unless the refusal is a fault of the disk
+abbrev pub UnlessFault : JournalRefusal → Type 0 → Type 0
+UnlessFault DiskFault P = Unit {0}
+UnlessFault JournalFull P = P
+UnlessFault (NotAJournal place) P = P
+UnlessFault (Spent count) P = P
+UnlessFault Memory P = P

@@ -32,3 +32,8 @@ pub record OnlyLooked {D : Type 0} (reads : D → Option (List ℕ)) (may_leave 
 -- these bytes are the front of the file
 abbrev pub IsFront : (bytes file : List ℕ) → Type 0
 IsFront bytes file = take (length bytes) file ≡ bytes
+
+-- the disk reads as it did, and a crash leaves nothing that it couldn't have left before
+pub record Untouched {D : Type 0} (reads : D → Option (List ℕ)) (may_leave : D → List ℕ → Type 0) (old new : D) : Type 0 where
+  pub reading : reads new ≡ reads old
+  pub images : (image : List ℕ) → may_leave new image → may_leave old image

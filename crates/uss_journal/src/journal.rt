@@ -39,7 +39,7 @@ impl<D: Disk> Model for Journal<D> {
 }
 
 impl<D: Disk> Journal<D> {
-    ghost use Rattle.uss_journal.specs.Refusal.{Appended, AppendRefused, RemountRefused, MountRefused, RefusedBy, disk_after};
+    ghost use Rattle.uss_journal.specs.Refusal.{Appended, AppendRefused, RemountRefused, MountRefused, RefusedBy, UnlessFault, disk_after};
 
     /// Mounts the journal that the disk's file holds. Begins with a sync, and makes a new, empty journal of a file of at
     /// most nine bytes.
@@ -54,6 +54,7 @@ impl<D: Disk> Journal<D> {
             (λ j. StandsFor j.records (bytes_of (D.reads disk)))
             (λ r. RefusedBy (bytes_of (D.reads disk)) r.refusal) }
         ensures kept { D.is_honest disk → stands_for (bytes_of (D.reads (disk_after result))) ≡ stands_for (bytes_of (D.reads disk)) }
+        ensures untouched { D.is_honest disk → IfErr result (λ r. UnlessFault r.refusal (D.reads r.back ≡ D.reads disk)) }
         ensures durable { D.is_honest disk → IfOk result (λ j. (image : List ℕ) → D.may_leave j.disk image → StandsFor j.records image) }
         ensures crash { D.is_honest disk → CrashLeaves D.moment D.left_since
             (λ image. D.may_leave disk image ⊎ (stands_for image ≡ stands_for (bytes_of (D.reads disk)))) disk (disk_after result) }
@@ -116,6 +117,7 @@ impl<D: Disk> Journal<D> {
             (λ _. StandsFor self.new.records (bytes_of (D.reads self.old.disk)))
             (λ r. RefusedBy (bytes_of (D.reads self.old.disk)) r) }
         ensures kept { D.is_honest self.old.disk → WithOrWithout self.old.records self.old.tried (bytes_of (D.reads self.old.disk)) }
+        ensures untouched { D.is_honest self.old.disk → IfErr result (λ r. UnlessFault r (D.reads self.new.disk ≡ D.reads self.old.disk)) }
         ensures durable { D.is_honest self.old.disk → OnOk result ((image : List ℕ) → D.may_leave self.new.disk image → StandsFor self.new.records image) }
         ensures crash { D.is_honest self.old.disk → CrashLeaves D.moment D.left_since
             (WithOrWithout self.old.records self.old.tried) self.old.disk self.new.disk }

@@ -1,4 +1,4 @@
-use Rattle.std.proofs.Common.{◌≡◌, ◌∙◌, ◌≤◌, ℕ, List, [], length, ap, subst, sym, arith, Result, Ok, Err, Option, IfOk, IfErr, MatchResult}
+use Rattle.std.proofs.Common.{◌≡◌, ◌∙◌, ◌≤◌, ℕ, List, [], length, ap, subst, sym, arith, Result, Ok, Err, IfOk, IfErr, MatchResult}
 use Rattle.uss_disk.specs.Disk.{bytes_of}
 use Rattle.uss_journal.specs.Format.{new_journal}
 use Rattle.uss_journal.specs.Gates.{Gated, records_between}

@@ -1,4 +1,4 @@
-use Rattle.std.proofs.Common.{◌≡◌, ◌∙◌, ◌≤◌, ℕ, List, ◌++◌, length, take, drop, sym, ap, subst, arith, vec_len, max, min}
+use Rattle.std.proofs.Common.{◌≡◌, ◌∙◌, ◌≤◌, ℕ, List, ◌++◌, length, take, drop, sym, ap, subst, arith, vec_len}
 use Rattle.std.proofs.lemmas.List.{drop_all, append-nil, take_all, take_at}
 use Rattle.uss_journal.specs.Sound.{IsFront}
 use Rattle.uss_disk.specs.Disk.{bytes_of}

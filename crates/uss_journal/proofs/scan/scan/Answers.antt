@@ -1,4 +1,4 @@
-use Rattle.std.proofs.Common.{◌≡◌, ◌∙◌, ◌+◌, ◌<◌, ◌≤◌, ℕ, arith, rules, subst, sym, List, length, vec_len, take}
+use Rattle.std.proofs.Common.{◌≡◌, ◌∙◌, ◌+◌, ◌≤◌, ℕ, arith, rules, subst, sym, List, length, vec_len, take}
 use Rattle.std.proofs.lemmas.List.{get_or_read, length-take-le}
 use Rattle.uss_journal.specs.Gates.{Gated}
 use Rattle.uss_journal.proofs.Stands.{leads_inside, gated_cut}

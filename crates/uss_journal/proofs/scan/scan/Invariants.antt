@@ -1,4 +1,4 @@
-use Rattle.std.proofs.Common.{◌≡◌, ◌-◌, ◌<◌, ◌≤◌, ℕ, length, vec_len}
+use Rattle.std.proofs.Common.{◌-◌, ◌≤◌, vec_len}
 use Rattle.uss_disk.specs.Disk.{bytes_of}
 use Rattle.uss_journal.specs.Gates.{Leads}
 use Rattle.uss_journal.specs.Sound.{OnlyLooked, IsFront}

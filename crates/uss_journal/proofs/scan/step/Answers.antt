@@ -1,4 +1,4 @@
-use Rattle.std.proofs.Common.{◌≡◌, ◌<◌, arith, subst, sym, ◌∙◌, List, ℕ, length}
+use Rattle.std.proofs.Common.{◌<◌, arith, subst, sym, List, ℕ, length}
 use Rattle.uss_disk.specs.Disk.{bytes_of}
 use Rattle.uss_journal.specs.Gates.{Leads}
 use Rattle.uss_journal.proofs.Stands.{leads_more, refused_past}
