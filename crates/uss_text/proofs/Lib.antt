@@ -1,5 +1,6 @@
 pub mod Cutting
 pub mod Digits
+pub mod Decimal
 pub mod Many
 pub mod Places
 pub mod Made

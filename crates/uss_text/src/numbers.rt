@@ -1,4 +1,5 @@
-ghost use Rattle.std.specs.Prelude.{◌≡◌, ◌^◌};
+ghost use Rattle.std.specs.Prelude.{◌≡◌, ◌<◌, ◌^◌, ℕ, Some, IfSome};
+ghost use Rattle.std.specs.Fmt.{decimal};
 ghost use Rattle.std.specs.List.{list_all};
 ghost use Rattle.std.specs.Char.{is_ascii_digit};
 ghost use Rattle.uss_text.specs.Numbers as spec;
@@ -26,8 +27,7 @@ fn is_natural(word: &[u8]) -> bool
     are_digits(word)
 }
 
-/// The number that the word writes, where it is one below 2 ^ 64.
-pub fn natural(word: &[u8]) -> Option<u64>
+fn parsed_natural(word: &[u8]) -> Option<u64>
     ensures { result ≡ natural_below (2 ^ 64) (spec.natural_of word.now) }
 {
     if !is_natural(word) {
@@ -37,6 +37,16 @@ pub fn natural(word: &[u8]) -> Option<u64>
         Ok(text) => text.parse::<u64>().ok(),
         Err(_) => None,
     }
+}
+
+/// The number whose decimal text the word is, without a sign or a leading zero. For the words of scripts and of
+/// the command line.
+pub fn natural(word: &[u8]) -> Option<u64>
+    ensures value { result ≡ natural_below (2 ^ 64) (spec.natural_of word.now) }
+    ensures found { IfSome result (λ n. word.now ≡ decimal n) }
+    ensures every { (n : ℕ) → n < 2 ^ 64 → word.now ≡ decimal n → result ≡ Some n }
+{
+    parsed_natural(word)
 }
 
 /// The word behind a `-` in front, if there is one.
