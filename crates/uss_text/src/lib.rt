@@ -15,6 +15,6 @@ mod words;
 
 pub use conflict::{ConflictScript, read_conflict};
 pub use discover::{DiscoverLine, DiscoverLines, read_discover};
-pub use numbers::natural;
+pub use numbers::{integer, natural};
 pub use refusal::{ScriptRefusal, WordRefusal};
 pub use replies::write_reply;
