@@ -18,3 +18,6 @@ pub use discover::{DiscoverLine, DiscoverLines, read_discover};
 pub use numbers::{integer, natural};
 pub use refusal::{ScriptRefusal, WordRefusal};
 pub use replies::write_reply;
+
+#[cfg(test)]
+mod tests;
