@@ -2,4 +2,5 @@ mod Append
 mod Behind
 mod Bytes
 mod Chain
+mod Remount
 mod Stands
