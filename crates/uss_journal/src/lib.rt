@@ -7,6 +7,8 @@ mod load;
 mod refusal;
 mod scan;
 mod staged;
+#[cfg(test)]
+mod tests;
 
 pub use journal::{Journal, LIMIT};
 pub use refusal::{JournalRefusal, MountRefusal};
