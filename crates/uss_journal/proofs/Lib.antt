@@ -4,3 +4,4 @@ mod Bytes
 mod Chain
 mod Remount
 mod Stands
+mod Writing

@@ -3,6 +3,7 @@
 
 mod journal;
 mod known;
+mod law;
 mod load;
 mod refusal;
 mod scan;
@@ -11,4 +12,5 @@ mod staged;
 mod tests;
 
 pub use journal::{Journal, LIMIT};
+pub use law::written_records_are_found;
 pub use refusal::{JournalRefusal, MountRefusal};

@@ -43,7 +43,7 @@ fn run(rt: &impl Abort, alloc: Global, file: &[u8], number: u64) -> Result<(), F
     let before = journal.count();
     let mut acknowledged = before;
     match journal.append(b"new") {
-        Ok(()) => acknowledged += 1,
+        Ok(()) => acknowledged = acknowledged.saturating_add(1),
         Err(refusal) => {
             faults += 1;
             assert_eq!(rt; refusal, JournalRefusal::DiskFault, "at {number}");
@@ -57,11 +57,14 @@ fn run(rt: &impl Abort, alloc: Global, file: &[u8], number: u64) -> Result<(), F
         }
     }
     let after = journal.count();
-    assert!(rt; acknowledged <= after && after <= before + 1, "at {number}");
+    assert!(rt;
+        acknowledged <= after && after <= before.saturating_add(1),
+        "at {number}"
+    );
     assert_eq!(rt; faults, usize::from(number > 0), "at {number}");
     let used = journal.used();
     journal.append(b"last")?;
-    assert_eq!(rt; journal.used(), used + 9, "at {number}");
+    assert_eq!(rt; journal.used(), used.saturating_add(9), "at {number}");
     assert!(rt; is_last(&journal, b"last"), "at {number}");
     Ok(())
 }
