@@ -7,6 +7,8 @@ mod disk;
 mod file;
 mod memory;
 mod record;
+#[cfg(test)]
+mod tests;
 
 pub use act::{Act, Call, DiskFault, Written};
 pub use disk::Disk;

@@ -6,13 +6,14 @@ use Rattle.std.specs.Int.{w32, to_be_bytes}
 use Rattle.uss_disk.specs.Disk.{bytes_of, written, Torn, Only, CrashLeaves}
 use Rattle.uss_disk.specs.Crash.{crash_weaker}
 use Rattle.uss_disk.specs.Left.{Torn-written}
-use Rattle.uss_journal.specs.Format.{stands_for}
+use Rattle.uss_journal.specs.Format.{stands_for, used_of}
 use Rattle.uss_journal.specs.Gates.{records_between, Gated, tried_of}
-use Rattle.uss_journal.specs.Journal.{StandsFor, WithOrWithout, staged_of, IsStaged}
+use Rattle.uss_journal.specs.Journal.{StandsFor, WithOrWithout, staged_of, IsStaged, with_appended}
 use Rattle.uss_journal.specs.Sound.{IsSound, IsSettled}
 use Rattle.uss_journal.specs.Known.{IsAccepted}
 use Rattle.uss_journal.specs.declared.known.Known.{Known}
 use Rattle.uss_journal.proofs.Bytes.{Agree, agree_less, agree_take}
+use Rattle.uss_journal.proofs.Chain.{used_between}
 use Rattle.uss_journal.proofs.Stands.{gated_agree, other_records, stands_front, front_agrees}
 use Rattle.uss_journal.proofs.Behind.{stands_staged, gated_opened, records_opened, parts_entry}
 
@@ -285,6 +286,22 @@ staged_records known gates gate gated whole entry small bytes' gates' last' is_b
   ap (λ (b : List ℕ). records_between b 8 gates') is_bytes ∙ ap (λ (gs : List ℕ). records_between (known ++ staged_of entry) 8 gs) is_gates ∙ records_tried known gates gate gated whole entry small,
   ap (λ (b : List ℕ). tried_of b last') is_bytes ∙ ap (λ (n : ℕ). tried_of (known ++ staged_of entry) n) is_last ∙ tried_is known gates gate gated whole entry small,
 )
+
+-- how many bytes are used
+pub used_is : (known gates : List ℕ) (gate : ℕ) → Gated known gates gate → gate + 1 ≡ used_of (records_between known 8 gates)
+used_is known gates gate gated = omega (arith, gated.is_last, used_between known gates 8 gated.reaches)
+
+-- the file that was written, by them
+pub file_appended : (known gates : List ℕ) (gate : ℕ) (gated : Gated known gates gate) (whole : length known ≡ gate + 1) (entry : List ℕ) (small : length entry < 2 ^ 32)
+    (staged : List ℕ) (last : ℕ) → staged ≡ known ++ staged_of entry → last ≡ gate → (file : List ℕ) (used : ℕ) → gate + 1 ≡ used
+    → written last (1 ∷ []) (written (last + 1) (drop (last + 1) staged) file) ≡ with_appended used entry file
+file_appended known gates gate gated whole entry small staged last is_staged is_last file used is_used =
+    let before : gate ≡ used - 1 = omega arith in
+    ap (λ (n : ℕ). written n (1 ∷ []) (written (n + 1) (drop (n + 1) staged) file)) is_last
+    ∙ ap (λ (s : List ℕ). written gate (1 ∷ []) (written (gate + 1) (drop (gate + 1) s) file)) is_staged
+    ∙ ap (λ (s : List ℕ). written gate (1 ∷ []) (written (gate + 1) s file)) (staged_is known gates gate gated whole entry small)
+    ∙ ap (λ (n : ℕ). written gate (1 ∷ []) (written n (staged_of entry) file)) is_used
+    ∙ ap (λ (n : ℕ). written n (1 ∷ []) (written used (staged_of entry) file)) before
 
 -- no value is there where none of them is it
 pub none_from_not : (o : Option ℕ) → ((x : ℕ) → o ≡ Some x → ⊥) → o ≡ None

@@ -18,7 +18,7 @@ last_in_file file gate [] r = r
 last_in_file file gate (next ∷ gates) r = last_in_file file next gates r.2
 
 -- one step of the definition, by the facts that its tests stand for
-step_open : (file : List ℕ) (gate steps next : ℕ) (rest : List (List ℕ)) → get_or file gate 0 ≢ 0 → next ≡ next_gate file gate → next < length file → reached steps file next ≡ Ok rest
+pub step_open : (file : List ℕ) (gate steps next : ℕ) (rest : List (List ℕ)) → get_or file gate 0 ≢ 0 → next ≡ next_gate file gate → next < length file → reached steps file next ≡ Ok rest
     → reached (suc steps) file gate ≡ Ok (slice_range file (gate + 5) next ∷ rest)
 step_open file gate steps next rest is_open is_next low found =
     let shut : eqb (get_or file gate 0) 0 ≡ false = ne_eqb _ _ is_open in

@@ -4,7 +4,7 @@
 -- otherwise. Behind an open gate stands a record: its length in four bytes, the highest first, its bytes, and then the
 -- next gate. The records are those reached through open gates. What stands behind the first closed gate means nothing.
 use Rattle.std.specs.Prelude.{ℕ, suc, zero, ◌+◌, List, [], ◌∷◌, ◌++◌, length, slice_index, slice_range, sum_by, Option, Some, None, Result, Ok, Err, if◌then◌else◌, nat_le, nat_lt, ◌==◌}
-use Rattle.std.specs.Int.{w32, from_be_bytes}
+use Rattle.std.specs.Int.{w32, from_be_bytes, to_be_bytes}
 
 -- the first eight bytes of a journal: the text USSJ0001
 abbrev pub mark : List ℕ
@@ -61,3 +61,12 @@ stands_for file = if nat_le (length file) 9 then Ok [] else unless_differs (firs
 -- the bytes of a journal of these records, up to and with its last gate
 abbrev pub used_of : List (List ℕ) → ℕ
 used_of records = 9 + sum_by (λ r. 5 + length r) records
+
+-- records as they are written one behind the other, each behind its open gate
+abbrev pub blocks : List (List ℕ) → List ℕ
+blocks [] = []
+blocks (r ∷ records) = 1 ∷ to_be_bytes w32 (length r) ++ r ++ blocks records
+
+-- a file that was written record by record, with a closed gate behind the last, and whatever stands behind that
+abbrev pub journal_of : (records : List (List ℕ)) (rest : List ℕ) → List ℕ
+journal_of records rest = mark ++ (blocks records ++ 0 ∷ rest)

@@ -3,7 +3,7 @@ ghost use Rattle.std.specs.Prelude.{◌≡◌, ◌↔◌, ◌≤◌, ◌∷◌, 
 ghost use Rattle.std.specs.Option.{option_copied};
 ghost use Rattle.uss_disk.specs.Disk.{bytes_of, CrashLeaves};
 ghost use Rattle.uss_journal.specs.Format.{stands_for, used_of};
-ghost use Rattle.uss_journal.specs.Journal.{StandsFor, WithOrWithout};
+ghost use Rattle.uss_journal.specs.Journal.{StandsFor, WithOrWithout, with_appended, mounted};
 
 use crate::known::Known;
 use crate::load::load;
@@ -53,6 +53,7 @@ impl<D: Disk> Journal<D> {
         ensures found { D.is_honest disk → MatchResult result
             (λ j. StandsFor j.records (bytes_of (D.reads disk)))
             (λ r. RefusedBy (bytes_of (D.reads disk)) r.refusal) }
+        ensures file { D.is_honest disk → IfOk result (λ j. bytes_of (D.reads j.disk) ≡ mounted (bytes_of (D.reads disk))) }
         ensures kept { D.is_honest disk → stands_for (bytes_of (D.reads (disk_after result))) ≡ stands_for (bytes_of (D.reads disk)) }
         ensures untouched { D.is_honest disk → IfErr result (λ r. UnlessFault r.refusal (D.reads r.back ≡ D.reads disk)) }
         ensures durable { D.is_honest disk → IfOk result (λ j. (image : List ℕ) → D.may_leave j.disk image → StandsFor j.records image) }
@@ -87,6 +88,8 @@ impl<D: Disk> Journal<D> {
         ensures crash { D.is_honest self.old.disk → self.old.spent ≡ None → CrashLeaves D.moment D.left_since
             (WithOrWithout self.old.records (Some bytes.now)) self.old.disk self.new.disk }
         ensures durable { D.is_honest self.old.disk → OnOk result ((image : List ℕ) → D.may_leave self.new.disk image → StandsFor self.new.records image) }
+        ensures file { D.is_honest self.old.disk → OnOk result (bytes_of (D.reads self.new.disk)
+            ≡ with_appended (used_of self.old.records) bytes.now (bytes_of (D.reads self.old.disk))) }
     {
         if let Some(count) = self.spent {
             return Err(JournalRefusal::Spent(count));
@@ -117,6 +120,7 @@ impl<D: Disk> Journal<D> {
             (λ _. StandsFor self.new.records (bytes_of (D.reads self.old.disk)))
             (λ r. RefusedBy (bytes_of (D.reads self.old.disk)) r) }
         ensures kept { D.is_honest self.old.disk → WithOrWithout self.old.records self.old.tried (bytes_of (D.reads self.old.disk)) }
+        ensures file { D.is_honest self.old.disk → OnOk result (bytes_of (D.reads self.new.disk) ≡ mounted (bytes_of (D.reads self.old.disk))) }
         ensures untouched { D.is_honest self.old.disk → IfErr result (λ r. UnlessFault r (D.reads self.new.disk ≡ D.reads self.old.disk)) }
         ensures durable { D.is_honest self.old.disk → OnOk result ((image : List ℕ) → D.may_leave self.new.disk image → StandsFor self.new.records image) }
         ensures crash { D.is_honest self.old.disk → CrashLeaves D.moment D.left_since

@@ -3,10 +3,14 @@
 
 mod journal;
 mod known;
+mod law;
 mod load;
 mod refusal;
 mod scan;
 mod staged;
+#[cfg(test)]
+mod tests;
 
 pub use journal::{Journal, LIMIT};
+pub use law::written_records_are_found;
 pub use refusal::{JournalRefusal, MountRefusal};

@@ -4,7 +4,7 @@ ghost use Rattle.uss_cause.specs.Cause.{Counts};
 ghost use Rattle.uss_disk.specs.Disk.{bytes_of, Only, CrashLeaves, SameMeaning};
 ghost use Rattle.uss_journal.specs.Format.{stands_for, new_journal};
 ghost use Rattle.uss_journal.specs.Gates.{Gated, records_between};
-ghost use Rattle.uss_journal.specs.Journal.{StandsFor};
+ghost use Rattle.uss_journal.specs.Journal.{StandsFor, mounted};
 ghost use Rattle.uss_journal.specs.Refusal.{MountRefused, RefusedBy, UnlessFault};
 ghost use Rattle.uss_journal.specs.Sound.{IsSettled, AllShort, Untouched};
 
@@ -25,6 +25,7 @@ pub(crate) fn load<D: Disk>(alloc: Global, disk: &mut D) -> Result<Known, Journa
     ensures found { D.is_honest disk.old → MatchResult result
         (λ k. StandsFor (records_between k.bytes.items 8 k.gates.items) (bytes_of (D.reads disk.old)))
         (RefusedBy (bytes_of (D.reads disk.old))) }
+    ensures file { D.is_honest disk.old → OnOk result (bytes_of (D.reads disk.new) ≡ mounted (bytes_of (D.reads disk.old))) }
     ensures kept { D.is_honest disk.old → stands_for (bytes_of (D.reads disk.new)) ≡ stands_for (bytes_of (D.reads disk.old)) }
     ensures untouched { D.is_honest disk.old → IfErr result (λ r. UnlessFault r (Untouched D.reads D.may_leave disk.old disk.new)) }
     ensures settled { D.is_honest disk.old → IfOk result (λ k. IsSettled k.bytes.items (bytes_of (D.reads disk.new)) (D.may_leave disk.new)) }
@@ -46,6 +47,7 @@ fn make<D: Disk>(alloc: Global, disk: &mut D, len: u64) -> Result<Known, Journal
     ensures refused { IfErr result (MountRefused (D.fault_count disk.old) (D.fault_count disk.new)) }
     ensures count { D.fault_count disk.old ≤ D.fault_count disk.new }
     ensures honest { D.is_honest disk.new ↔ D.is_honest disk.old }
+    ensures file { D.is_honest disk.old → OnOk result (bytes_of (D.reads disk.new) ≡ new_journal) }
     ensures made { IfOk result (λ k. (k.bytes.items ≡ new_journal) × (k.gates.items ≡ []) × (k.last ≡ 8)) }
     ensures settled { D.is_honest disk.old → IfOk result (λ k. IsSettled k.bytes.items (bytes_of (D.reads disk.new)) (D.may_leave disk.new)) }
     ensures crash { D.is_honest disk.old → AllShort (D.may_leave disk.old) → CrashLeaves D.moment D.left_since (λ image. length image ≤ 9) disk.old disk.new }

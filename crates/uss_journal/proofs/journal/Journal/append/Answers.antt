@@ -4,9 +4,9 @@ use Rattle.uss_cause.specs.Cause.{Rose}
 use Rattle.uss_journal.specs.declared.known.Known.{Known}
 use Rattle.uss_journal.specs.Format.{used_of}
 use Rattle.uss_journal.specs.Gates.{records_between}
-use Rattle.uss_journal.specs.Journal.{JournalView, WithOrWithout, staged_of}
+use Rattle.uss_journal.specs.Journal.{JournalView, WithOrWithout, staged_of, with_appended}
 use Rattle.uss_journal.specs.Sound.{IsSettled}
-use Rattle.uss_journal.proofs.Append.{sound_tried, sound_appended, crash_appended, none_from_not, room_is, settled_appended, now_known, known_records, stands_known, staged_records}
+use Rattle.uss_journal.proofs.Append.{sound_tried, sound_appended, crash_appended, none_from_not, room_is, settled_appended, now_known, known_records, stands_known, staged_records, used_is, file_appended}
 use Rattle.uss_journal.proofs.journal.Journal.append.Goals as goal
 
 pub invariant_of-self-in-Ok : goal.invariant_of-self-in-Ok
@@ -158,3 +158,20 @@ invariant_of-self-in-Err g c =
     let leaves = crash_appended D.moment D.left_since old.disk c.commit.new.disk old.known.bytes.items old.known.gates.items old.known.last inv.gated whole entry small
     (bytes_of (D.reads old.disk)) settled.front c.stage.new.self.bytes.items c.stage.new.self.last c.in_ok-stage.ensures.ok c.stage.ensures.last (c.commit.ensures.crash still settled.durable) in
     leaves.each image (g.met.D.Disk.counts_now c.commit.new.disk (D.moment old.disk) image honest leaves.later may))
+
+pub returns-in-Ok-clause-file : goal.returns-in-Ok-clause-file
+returns-in-Ok-clause-file g c = λ honest.
+    let D = g.D.Disk in
+    let old = c.self.inside in
+    let inv = c.self.invariant in
+    let unspent = none_from_not old.spent c.in_default.not-Some in
+    let whole = inv.whole unspent in
+    let entry = c.args.bytes.now in
+    let small : length entry < 2 ^ 32 = omega (arith, c.if-bytes-saturating_sub.false, c.saturating_sub.ensures) in
+    let is_disk : old.disk ≡ c.args.self.now.disk = ap (λ (v : JournalView g.row.D.Denot). v.disk) c.self.view_is in
+    let is_records : records_between old.known.bytes.items 8 old.known.gates.items ≡ c.args.self.now.records = ap (λ (v : JournalView g.row.D.Denot). v.records) c.self.view_is in
+    let still : D.is_honest old.disk = subst D.is_honest (sym is_disk) honest in
+    let used : old.known.last + 1 ≡ used_of c.args.self.now.records = used_is old.known.bytes.items old.known.gates.items old.known.last inv.gated ∙ ap used_of is_records in
+    c.in-Ok.ensures.reading still
+    ∙ file_appended old.known.bytes.items old.known.gates.items old.known.last inv.gated whole entry small c.stage.new.self.bytes.items c.stage.new.self.last c.in_ok-stage.ensures.ok c.stage.ensures.last (bytes_of (D.reads old.disk)) (used_of c.args.self.now.records) used
+    ∙ ap (λ (d : g.row.D.Denot). with_appended (used_of c.args.self.now.records) entry (bytes_of (D.reads d))) is_disk
