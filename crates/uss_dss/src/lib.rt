@@ -8,6 +8,10 @@ ghost use Rattle.std.specs.Prelude.{◌≡◌, option_copied, slice_get};
 ghost use Rattle.std.specs.Option.{option_map};
 ghost use Rattle.uss_law_dss.specs.Service.{empty, has_number, recorded_of};
 
+mod judge;
+mod judge_put;
+mod shown;
+
 use std::alloc::Global;
 use std::marker::Model;
 use uss_intent::{FlightId, Landing, Landings, Recorded, Reference, Ticket, TicketId, Volumes};
