@@ -83,7 +83,7 @@ parts_together false xs ys zs ws =
 -- it is that of the definition
 pub put_refusal_is : (s : Service) (client : List ℕ) (flight : ℕ) (ovn : Option (List ℕ)) (extents : List Volume4D) (key : List (List ℕ)) (state : State) (ticket : ℕ)
     → put_refusal s client flight ovn extents key state ticket ≡ first_of (put_tests s client flight ovn extents key state ticket)
-unfolding flight_refusal, ticket_refusal, key_refusal, room_refusal
+unfolding flight_refusal ticket_refusal key_refusal room_refusal
 put_refusal_is s client flight ovn extents key state ticket =
     parts_together (is_bad_put extents key) (flight_tests s client flight ovn) (ticket_tests s client extents ticket)
     (key_tests s client flight extents key state) (room_tests s flight ovn)
