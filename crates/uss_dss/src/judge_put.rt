@@ -1,10 +1,10 @@
 //! Why a Put is refused.
 
-ghost use Rattle.std.specs.Prelude.{◌≡◌, ◌==◌, ◌<◌, not, ◌&&◌, length, filter, IfOk};
+ghost use Rattle.std.specs.Prelude.{◌≡◌, ◌==◌, ◌<◌, not, ◌&&◌, length, filter, true, IfOk};
 ghost use Rattle.uss_law_dss.specs.Service.{in_key, lacking, relevant, shown_to};
 ghost use Rattle.uss_vol4.specs.Sharing.{any_shares};
 ghost use Rattle.uss_law_dss.specs.Refusals.{shown_all};
-ghost use Rattle.uss_dss.specs.Parts.{flight_refusal, ticket_refusal, key_refusal, room_refusal, put_refusal, is_missing};
+ghost use Rattle.uss_dss.specs.Parts.{flight_refusal, ticket_refusal, key_refusal, room_refusal, put_refusal, key_answer, is_missing};
 
 use crate::Dss;
 use crate::judge::{has_ovn, is_bad_put, is_keyed};
@@ -78,10 +78,7 @@ impl Dss {
             return Ok(None);
         }
         let missing = missing(self.alloc, &self.references, client, flight, extents, key)?;
-        if missing.is_empty() {
-            return Ok(None);
-        }
-        Ok(Some(DssRefusal::MissingKey(References::from_vec(missing))))
+        Ok(of_missing(missing))
     }
 
     #[tactic(auto, unfolding(crate::specs::Parts::room_refusal))]
@@ -127,6 +124,15 @@ impl Dss {
         }
         Ok(self.judge_room(flight, ovn))
     }
+}
+
+fn of_missing(missing: Vec<Reference>) -> Option<DssRefusal>
+    ensures { result ≡ key_answer true missing.items }
+{
+    if missing.is_empty() {
+        return None;
+    }
+    Some(DssRefusal::MissingKey(References::from_vec(missing)))
 }
 
 /// The references that the key lacks, as they are shown to the client.

@@ -8,6 +8,7 @@ ghost use Rattle.std.specs.Prelude.{◌≡◌, option_copied, slice_get};
 ghost use Rattle.std.specs.Option.{option_map};
 ghost use Rattle.uss_law_dss.specs.Service.{empty, has_number, recorded_of};
 
+mod changes;
 mod judge;
 mod judge_put;
 mod shown;
@@ -29,15 +30,14 @@ pub struct Dss {
 }
 
 impl Model for Dss {
-    ghost use Rattle.std.specs.Prelude.{◌+◌, ◌≤◌, length, vec_len};
     ghost use Rattle.uss_law_dss.specs.Service.{Service};
-    ghost use Rattle.uss_dss.specs.Bounds.{IsBounded};
+    ghost use Rattle.uss_law_dss.specs.Orderly.{IsOrderly};
 
     ghost Value = { Service };
 
     ghost view = { λ d. record { references = d.references.items; tickets = d.tickets.items; retired_flights = d.retired_flights.items; retired_tickets = d.retired_tickets.items; landings = d.landings } };
 
-    ghost invariant = { λ d. IsBounded d.tickets.items (length d.landings) (vec_len d.retired_flights) };
+    ghost invariant = { λ d. IsOrderly (record { references = d.references.items; tickets = d.tickets.items; retired_flights = d.retired_flights.items; retired_tickets = d.retired_tickets.items; landings = d.landings }) };
 }
 
 impl Dss {
