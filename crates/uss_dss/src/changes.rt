@@ -1,9 +1,9 @@
 //! The parts of what calls do: new lists, made before anything is changed, and changes that want no memory.
 
 ghost use Rattle.std.specs.Prelude.{◌≡◌, ◌+◌, ◌<◌, ◌++◌, map, filter, not, ◌==◌, length, IfOk, vec_len, vec_capacity, is_ok, if◌then◌else◌};
-ghost use Rattle.std.specs.Prelude.{◌^◌, ◌≤◌, ◌≢◌, nat_lt, nat_le, slice_index_or, OnOk};
+ghost use Rattle.std.specs.Prelude.{◌^◌, ◌≤◌, ◌≢◌, nat_lt, nat_le, slice_index_or, slice_set, OnOk};
 ghost use Rattle.std.specs.Bool.{OnTrue, OnFalse};
-ghost use Rattle.std.specs.List.{prefix_len};
+ghost use Rattle.std.specs.List.{prefix_len, insert};
 ghost use Rattle.uss_law_dss.specs.Service.{reach, digits, ovn_of};
 ghost use Rattle.uss_law_dss.specs.Refusals.{shown_all};
 ghost use Rattle.uss_law_dss.specs.Step.{is_told, subscribers, put_recorded, put_ticket, without_flight, without_ticket, found_in};
@@ -11,6 +11,7 @@ ghost use Rattle.uss_dss.specs.Effects.{CanRise, index_after, with_indices};
 
 use crate::shown::shown;
 use std::alloc::{AllocError, AllocFailed, Global};
+use std::mem;
 use uss_intent::{FlightId, Name, Ovn, Recorded, Reference, Subscriber, Ticket, TicketId};
 use uss_vol4::Volume4;
 
@@ -133,16 +134,38 @@ fn has_flight_at(references: &[Recorded], place: usize, flight: FlightId) -> boo
     }
 }
 
+fn flight_of(r: &Recorded) -> FlightId
+    ensures { result ≡ r.now.reference.flight }
+{
+    r.reference.flight
+}
+
+fn replace_at(references: &mut Vec<Recorded>, place: usize, new: Recorded)
+    requires { place < vec_len references.old }
+    ensures { references.new.items ≡ slice_set references.old.items place new }
+{
+    let _ = mem::replace(&mut references[place], new);
+}
+
+fn insert_at(references: &mut Vec<Recorded>, place: usize, new: Recorded)
+    requires within { place ≤ vec_len references.old }
+    requires room { vec_len references.old < vec_capacity references.old }
+    ensures { references.new.items ≡ insert references.old.items place new }
+{
+    let _ = references.insert(place, new);
+}
+
 /// Puts the reference into its place by flight, or into the place of the one of its flight.
 pub(crate) fn put_recorded(references: &mut Vec<Recorded>, new: Recorded)
     requires { vec_len references.old < vec_capacity references.old }
     ensures { references.new.items ≡ put_recorded new references.old.items }
 {
-    let place = place_of_flight(references, new.reference.flight);
-    if has_flight_at(references, place, new.reference.flight) {
-        references[place] = new;
+    let flight = flight_of(&new);
+    let place = place_of_flight(references, flight);
+    if has_flight_at(references, place, flight) {
+        replace_at(references, place, new);
     } else {
-        let _ = references.insert(place, new);
+        insert_at(references, place, new);
     }
 }
 
