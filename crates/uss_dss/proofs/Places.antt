@@ -1,5 +1,5 @@
 -- Lists written at one place are those of the definitions.
-use Rattle.std.proofs.Common.{◌≡◌, ◌≢◌, ℕ, zero, suc, ◌+◌, ◌<◌, ◌≤◌, ◌==◌, nat_lt, nat_le, Bool, true, false, cond, List, [], ◌∷◌, ◌++◌, length, get_or, set, take, drop, map, refl, sym, ap, subst, append_assoc, ◌/◌, ◌%◌, arith, inl, inr, if◌then◌else◌}
+use Rattle.std.proofs.Common.{◌≡◌, ◌≢◌, ℕ, zero, suc, ◌+◌, ◌<◌, ◌≤◌, ◌==◌, nat_lt, nat_le, Bool, true, false, cond, List, [], ◌∷◌, ◌++◌, length, get_or, set, take, drop, map, refl, sym, ap, subst, ◌∙◌, append_assoc, ◌/◌, ◌%◌, arith, inl, inr, if◌then◌else◌}
 use Rattle.std.specs.List.{prefix_len, insert}
 use Rattle.std.proofs.lemmas.Bool.Decides.{nat_tests}
 use Rattle.uss_intent.specs.declared.records.Recorded.{Recorded}
@@ -118,3 +118,24 @@ raised_by_indices client extents (t ∷ ts) = λ i. one (is_told client extents 
 pub length-indices : (client : List ℕ) (extents : List Volume4D) (ts : List Ticket) → length (map (index_after client extents) ts) ≡ length ts
 length-indices client extents [] = refl
 length-indices client extents (t ∷ ts) = ap suc (length-indices client extents ts)
+
+-- the same for the values that the code has
+pub replaced_at : (new d : Recorded) (rs ss : List Recorded) (flight place : ℕ) → flight ≡ new.reference.flight → ss ≡ rs
+    → place ≡ prefix_len (λ r. nat_lt r.reference.flight flight) ss → place < length ss → (get_or ss place d).reference.flight ≡ flight
+    → set rs place new ≡ put_recorded new rs
+replaced_at new d rs ss flight place e q p k h =
+    let p' : place ≡ before new rs = p ∙ (λ i. prefix_len (λ r. nat_lt r.reference.flight (e i)) (q i)) in
+    let k' = subst (λ (n : ℕ). n < length rs) p' (subst (λ (l : List Recorded). place < length l) q k) in
+    let h' = subst (λ (n : ℕ). (get_or rs n d).reference.flight ≡ new.reference.flight) p' (ap (λ (l : List Recorded). (get_or l place d).reference.flight) (sym q) ∙ h ∙ e) in
+    ap (λ n. set rs n new) p' ∙ sym (replaced_recorded new d rs k' h')
+
+pub placed_at : (new : Recorded) (rs ss : List Recorded) (flight place : ℕ) → flight ≡ new.reference.flight → ss ≡ rs
+    → place ≡ prefix_len (λ r. nat_lt r.reference.flight flight) ss
+    → ((d : Recorded) → place < length ss → (get_or ss place d).reference.flight ≢ flight)
+    → insert rs place new ≡ put_recorded new rs
+placed_at new rs ss flight place e q p others =
+    let p' : place ≡ before new rs = p ∙ (λ i. prefix_len (λ r. nat_lt r.reference.flight (e i)) (q i)) in
+    let others' = λ (d : Recorded) (k : before new rs < length rs) (h : (get_or rs (before new rs) d).reference.flight ≡ new.reference.flight).
+        others d (subst (λ (l : List Recorded). place < length l) (sym q) (subst (λ (n : ℕ). n < length rs) (sym p') k))
+        (ap (λ (l : List Recorded). (get_or l place d).reference.flight) q ∙ ap (λ (n : ℕ). (get_or rs n d).reference.flight) p' ∙ h ∙ sym e) in
+    ap (λ n. insert rs n new) p' ∙ sym (placed_recorded new rs others')

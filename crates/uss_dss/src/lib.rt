@@ -8,9 +8,11 @@ ghost use Rattle.std.specs.Prelude.{◌≡◌, option_copied, slice_get};
 ghost use Rattle.std.specs.Option.{option_map};
 ghost use Rattle.uss_law_dss.specs.Service.{empty, has_number, recorded_of};
 
+mod actions;
 mod changes;
 mod judge;
 mod judge_put;
+mod put;
 mod shown;
 
 use std::alloc::Global;
