@@ -6,7 +6,7 @@ ghost use Rattle.uss_law_dss.specs.Step.{accepted, new_ticket};
 
 use crate::Dss;
 use crate::changes::{
-    found, put_ticket, remove_flight, remove_ticket, told, write_indices,
+    found, put_ticket, remove_flight, remove_ticket, write_indices,
 };
 use crate::shown::shown;
 use std::alloc::AllocError;
@@ -108,7 +108,7 @@ impl Dss {
             return Ok(DssReply::Refused(DssRefusal::Absent));
         };
         let reply = r.reference.clone()?;
-        let change = told(self.alloc, client, &[], r.extents.as_slice(), &self.tickets)?;
+        let change = self.told_of_end(client, &r.extents)?;
         self.retired_flights.push(reply.flight)?;
         remove_flight(&mut self.references, reply.flight);
         write_indices(&mut self.tickets, &change.indices);
@@ -116,5 +116,35 @@ impl Dss {
             reference: reply,
             subscribers: Owed::from_vec(change.subscribers),
         })
+    }
+
+    /// What the call does, once it isn't refused.
+    pub(crate) fn perform(&mut self, client: &Name, ask: &DssAsk) -> Result<DssReply, AllocError>
+        requires { refusal_of self.old client.now ask.now ≡ None }
+        ensures done { IfOk result (λ reply. (reply, self.new) ≡ accepted self.old client.now ask.now) }
+        ensures memory { OnErr result (self.new ≡ self.old) }
+    {
+        let _ = &self.alloc;
+        match ask {
+            DssAsk::Query { area } => self.query(client, area),
+            DssAsk::Get { flight } => self.get(client, *flight),
+            DssAsk::Put {
+                flight,
+                ovn,
+                extents,
+                key: _,
+                state,
+                base,
+                ticket,
+            } => self.put(client, *flight, ovn, extents, *state, base, *ticket),
+            DssAsk::Remove { flight, ovn } => self.remove(client, *flight, ovn),
+            DssAsk::TicketPut { ticket, area, base } => {
+                self.ticket_put(client, *ticket, area, base)
+            }
+            DssAsk::TicketGet { ticket } => self.ticket_get(client, *ticket),
+            DssAsk::TicketRemove { ticket, version } => {
+                self.ticket_remove(client, *ticket, *version)
+            }
+        }
     }
 }

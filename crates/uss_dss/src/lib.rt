@@ -4,9 +4,11 @@
 //! `Dss::step` answers a client's call. `uss_law_dss` defines each reply and the state after it.
 #![tactic(auto)]
 
-ghost use Rattle.std.specs.Prelude.{◌≡◌, option_copied, slice_get};
+ghost use Rattle.std.specs.Prelude.{◌≡◌, option_copied, slice_get, IfOk, OnOk, OnErr, IfSome};
 ghost use Rattle.std.specs.Option.{option_map};
 ghost use Rattle.uss_law_dss.specs.Service.{empty, has_number, recorded_of};
+ghost use Rattle.uss_law_dss.specs.Refusals.{refusal_of};
+ghost use Rattle.uss_law_dss.specs.Step.{service_step};
 
 mod actions;
 mod changes;
@@ -15,9 +17,12 @@ mod judge_put;
 mod put;
 mod shown;
 
-use std::alloc::Global;
+use std::alloc::{AllocError, Global};
 use std::marker::Model;
-use uss_intent::{FlightId, Landing, Landings, Recorded, Reference, Ticket, TicketId, Volumes};
+use uss_intent::{
+    DssAsk, DssRefusal, DssReply, FlightId, Landings, Name, Recorded, Reference, Ticket, TicketId,
+    Volumes,
+};
 
 /// The discovery service. A contract sees its state: the references with their extents, ascending by flight, the
 /// tickets, ascending by identifier, the removed identifiers, and the landings, oldest first.
@@ -102,5 +107,26 @@ impl Dss {
         ensures { option_copied result ≡ recorded_of flight self.now }
     {
         self.references.iter().find(|r| r.reference.flight == flight)
+    }
+
+    /// Why the call is refused, if it is: the first of the call's refusals, in the order of their numbers, whose test holds. Want of
+    /// memory alone keeps it from answering.
+    pub fn refusal(&self, client: &Name, ask: &DssAsk) -> Result<Option<DssRefusal>, AllocError>
+        ensures { IfOk result (λ r. r ≡ refusal_of self.now client.now ask.now) }
+    {
+        self.judge(client, ask)
+    }
+
+    /// Answers a client's call. Want of memory leaves the service as it was, and so does a refusal.
+    pub fn step(&mut self, client: &Name, ask: &DssAsk) -> Result<DssReply, AllocError>
+        ensures reply { IfOk result (λ reply. reply ≡ (service_step self.old client.now ask.now).0) }
+        ensures state { OnOk result (self.new ≡ (service_step self.old client.now ask.now).1) }
+        ensures memory { OnErr result (self.new ≡ self.old) }
+        ensures refused { IfSome (refusal_of self.old client.now ask.now) (λ refusal. IfOk result (λ reply. (reply ≡ DssReply.Refused refusal) × (self.new ≡ self.old))) }
+    {
+        if let Some(refusal) = self.judge(client, ask)? {
+            return Ok(DssReply::Refused(refusal));
+        }
+        self.perform(client, ask)
     }
 }

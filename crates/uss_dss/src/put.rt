@@ -1,6 +1,6 @@
 //! What a Put does, once it isn't refused.
 
-ghost use Rattle.std.specs.Prelude.{◌≡◌, ◌<◌, ◌++◌, false, length, unwrap_or, IfOk, OnErr, map};
+ghost use Rattle.std.specs.Prelude.{◌≡◌, ◌<◌, ◌+◌, ◌==◌, ◌++◌, false, length, unwrap_or, IfOk, OnErr, map};
 ghost use Rattle.uss_intent.specs.Tags.{tag_of};
 ghost use Rattle.uss_law_dss.specs.Service.{recorded_of, ovn_of};
 ghost use Rattle.uss_law_dss.specs.Refusals.{is_at_last_version};
@@ -23,13 +23,21 @@ fn tag_or_zero(base: &Base) -> u64
     tag_of(base).unwrap_or(0)
 }
 
+fn version_after(r: &Recorded) -> u32
+    requires { (r.now.reference.version == 4294967295) ≡ false }
+    ensures { result ≡ r.now.reference.version + 1 }
+{
+    let version = r.reference.version;
+    version + 1
+}
+
 impl Dss {
     fn next_version(&self, flight: FlightId) -> u32
         requires { is_at_last_version (recorded_of flight self.now) ≡ false }
         ensures { result ≡ next_version (recorded_of flight self.now) }
     {
         match self.recorded(flight) {
-            Some(r) => r.reference.version + 1,
+            Some(r) => version_after(r),
             None => 1,
         }
     }
@@ -110,6 +118,18 @@ impl Dss {
     {
         let old = self.old_extents(flight);
         told(self.alloc, client, old, extents.as_slice(), &self.tickets)
+    }
+
+    /// What the end of a reference with these extents makes of the tickets.
+    pub(crate) fn told_of_end(
+        &self,
+        client: &Name,
+        extents: &Volumes,
+    ) -> Result<TicketChange, AllocError>
+        ensures indices { IfOk result (λ c. c.indices.items ≡ map (index_after client.now extents.now) self.now.tickets) }
+        ensures subscribers { IfOk result (λ c. c.subscribers.items ≡ subscribers client.now extents.now self.now.tickets) }
+    {
+        told(self.alloc, client, &[], extents.as_slice(), &self.tickets)
     }
 
     /// Records the landing. The caller has found that the Put isn't refused.
