@@ -65,7 +65,7 @@ pub landed_is : (v s : Service) (client : List ℕ) (flight : ℕ) (ovn : Option
     → ns ≡ map (index_after client (old_extents (recorded_of flight s) ++ extents)) s.tickets
     → subs ≡ subscribers client (old_extents (recorded_of flight s) ++ extents) s.tickets
     → (Landed reply subs, record v { references = put_recorded new v.references; tickets = with_indices ns v.tickets; landings = v.landings ++ l ∷ [] })
-      ≡ after_put s client flight ovn extents state base ticket
+    ≡ after_put s client flight ovn extents state base ticket
 landed_is v s client flight ovn extents state base ticket new l reply subs ns e n p r h u =
     let q = ap (λ m. with_indices m s.tickets) h ∙ raised_by_indices client (old_extents (recorded_of flight s) ++ extents) s.tickets in
     let g = r ∙ ap (λ (x : Recorded). x.reference) n in

@@ -59,16 +59,16 @@ placed_recorded new [] h = refl
 placed_recorded new (x ∷ xs) h = go (nat_lt x.reference.flight new.reference.flight) refl h (placed_recorded new xs)
   where
     go : (b : Bool) → nat_lt x.reference.flight new.reference.flight ≡ b
-      → ((d : Recorded) → cond b (1 + before new xs) 0 < suc (length xs) → (get_or (x ∷ xs) (cond b (1 + before new xs) 0) d).reference.flight ≢ new.reference.flight)
-      → (((d : Recorded) → before new xs < length xs → (get_or xs (before new xs) d).reference.flight ≢ new.reference.flight) → put_recorded new xs ≡ insert xs (before new xs) new)
-      → put_recorded new (x ∷ xs) ≡ insert (x ∷ xs) (cond b (1 + before new xs) 0) new
+        → ((d : Recorded) → cond b (1 + before new xs) 0 < suc (length xs) → (get_or (x ∷ xs) (cond b (1 + before new xs) 0) d).reference.flight ≢ new.reference.flight)
+        → (((d : Recorded) → before new xs < length xs → (get_or xs (before new xs) d).reference.flight ≢ new.reference.flight) → put_recorded new xs ≡ insert xs (before new xs) new)
+        → put_recorded new (x ∷ xs) ≡ insert (x ∷ xs) (cond b (1 + before new xs) 0) new
     go true e k rec =
-      let t = less x.reference.flight new.reference.flight e in
-      let s = one_more (before new xs) in
-      let k' = subst (λ (n : ℕ). (d : Recorded) → n < suc (length xs) → (get_or (x ∷ xs) n d).reference.flight ≢ new.reference.flight) s k in
-      rw (t.0, t.1, s) (ap (λ l. x ∷ l) (rec (λ d h. k' d (omega (arith, h)))))
+        let t = less x.reference.flight new.reference.flight e in
+        let s = one_more (before new xs) in
+        let k' = subst (λ (n : ℕ). (d : Recorded) → n < suc (length xs) → (get_or (x ∷ xs) n d).reference.flight ≢ new.reference.flight) s k in
+        rw (t.0, t.1, s) (ap (λ l. x ∷ l) (rec (λ d h. k' d (omega (arith, h)))))
     go false e k rec =
-      let t = no_more x.reference.flight new.reference.flight e (k x (omega arith)) in rw t refl
+        let t = no_more x.reference.flight new.reference.flight e (k x (omega arith)) in rw t refl
 
 -- a reference takes the place of the one of its flight
 pub replaced_recorded : (new d : Recorded) (rs : List Recorded) → before new rs < length rs
@@ -77,15 +77,15 @@ replaced_recorded new d [] k e = absurd (omega (arith, k))
 replaced_recorded new d (x ∷ xs) k e = go (nat_lt x.reference.flight new.reference.flight) refl k e (replaced_recorded new d xs)
   where
     go : (b : Bool) → nat_lt x.reference.flight new.reference.flight ≡ b
-      → cond b (1 + before new xs) 0 < suc (length xs)
-      → (get_or (x ∷ xs) (cond b (1 + before new xs) 0) d).reference.flight ≡ new.reference.flight
-      → (before new xs < length xs → (get_or xs (before new xs) d).reference.flight ≡ new.reference.flight → put_recorded new xs ≡ set xs (before new xs) new)
-      → put_recorded new (x ∷ xs) ≡ set (x ∷ xs) (cond b (1 + before new xs) 0) new
+        → cond b (1 + before new xs) 0 < suc (length xs)
+        → (get_or (x ∷ xs) (cond b (1 + before new xs) 0) d).reference.flight ≡ new.reference.flight
+        → (before new xs < length xs → (get_or xs (before new xs) d).reference.flight ≡ new.reference.flight → put_recorded new xs ≡ set xs (before new xs) new)
+        → put_recorded new (x ∷ xs) ≡ set (x ∷ xs) (cond b (1 + before new xs) 0) new
     go true q k e rec =
-      let t = less x.reference.flight new.reference.flight q in
-      let s = one_more (before new xs) in
-      let e' = subst (λ (n : ℕ). (get_or (x ∷ xs) n d).reference.flight ≡ new.reference.flight) s e in
-      rw (t.0, t.1, s) (ap (λ l. x ∷ l) (rec (omega (arith, k)) e'))
+        let t = less x.reference.flight new.reference.flight q in
+        let s = one_more (before new xs) in
+        let e' = subst (λ (n : ℕ). (get_or (x ∷ xs) n d).reference.flight ≡ new.reference.flight) s e in
+        rw (t.0, t.1, s) (ap (λ l. x ∷ l) (rec (omega (arith, k)) e'))
     go false q k e rec = let t = same x.reference.flight new.reference.flight q e in rw (t.0, t.1) refl
 
 -- a ticket goes to the place after those with no greater identifier
@@ -97,9 +97,9 @@ placed_ticket new [] = refl
 placed_ticket new (x ∷ xs) = go (nat_le x.id new.id) refl (placed_ticket new xs)
   where
     go : (b : Bool) → nat_le x.id new.id ≡ b → put_ticket new xs ≡ insert xs (up_to new xs) new
-      → put_ticket new (x ∷ xs) ≡ insert (x ∷ xs) (cond b (1 + up_to new xs) 0) new
+        → put_ticket new (x ∷ xs) ≡ insert (x ∷ xs) (cond b (1 + up_to new xs) 0) new
     go true e rec =
-      let t = among x.id new.id e in let s = one_more (up_to new xs) in rw (t, s) (ap (λ l. x ∷ l) rec)
+        let t = among x.id new.id e in let s = one_more (up_to new xs) in rw (t, s) (ap (λ l. x ∷ l) rec)
     go false e rec = let t = beyond x.id new.id e in rw t refl
 
 -- one more digit
@@ -136,6 +136,6 @@ pub placed_at : (new : Recorded) (rs ss : List Recorded) (flight place : ℕ) �
 placed_at new rs ss flight place e q p others =
     let p' : place ≡ before new rs = p ∙ (λ i. prefix_len (λ r. nat_lt r.reference.flight (e i)) (q i)) in
     let others' = λ (d : Recorded) (k : before new rs < length rs) (h : (get_or rs (before new rs) d).reference.flight ≡ new.reference.flight).
-        others d (subst (λ (l : List Recorded). place < length l) (sym q) (subst (λ (n : ℕ). n < length rs) (sym p') k))
-        (ap (λ (l : List Recorded). (get_or l place d).reference.flight) q ∙ ap (λ (n : ℕ). (get_or rs n d).reference.flight) p' ∙ h ∙ sym e) in
+    others d (subst (λ (l : List Recorded). place < length l) (sym q) (subst (λ (n : ℕ). n < length rs) (sym p') k))
+    (ap (λ (l : List Recorded). (get_or l place d).reference.flight) q ∙ ap (λ (n : ℕ). (get_or rs n d).reference.flight) p' ∙ h ∙ sym e) in
     ap (λ n. insert rs n new) p' ∙ sym (placed_recorded new rs others')

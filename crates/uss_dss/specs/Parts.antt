@@ -83,7 +83,7 @@ filtered_twice p q [] = refl
 filtered_twice {X} p q (x ∷ xs) = go (q x) (filtered_twice p q xs)
   where
     go : (a : Bool) → filter p (filter q xs) ≡ filter (λ x. q x && p x) xs
-      → filter p (cond a (x ∷ filter q xs) (filter q xs)) ≡ cond (a && p x) (x ∷ filter (λ x. q x && p x) xs) (filter (λ x. q x && p x) xs)
+        → filter p (cond a (x ∷ filter q xs) (filter q xs)) ≡ cond (a && p x) (x ∷ filter (λ x. q x && p x) xs) (filter (λ x. q x && p x) xs)
     go true e = ap (λ l. cond (p x) (x ∷ l) l) e
     go false e = e
 

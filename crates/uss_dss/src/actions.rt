@@ -5,9 +5,7 @@ ghost use Rattle.uss_law_dss.specs.Refusals.{refusal_of};
 ghost use Rattle.uss_law_dss.specs.Step.{accepted, new_ticket};
 
 use crate::Dss;
-use crate::changes::{
-    found, put_ticket, remove_flight, remove_ticket, write_indices,
-};
+use crate::changes::{found, put_ticket, remove_flight, remove_ticket, write_indices};
 use crate::shown::shown;
 use std::alloc::AllocError;
 use uss_intent::{

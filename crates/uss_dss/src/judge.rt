@@ -173,7 +173,12 @@ impl Dss {
         None
     }
 
-    fn judge_ticket_remove(&self, client: &Name, ticket: TicketId, version: u32) -> Option<DssRefusal>
+    fn judge_ticket_remove(
+        &self,
+        client: &Name,
+        ticket: TicketId,
+        version: u32,
+    ) -> Option<DssRefusal>
         ensures { result ≡ refusal_of self.now client.now (DssAsk.TicketRemove ticket version) }
     {
         if self.is_others_ticket(client, ticket) {
@@ -291,7 +296,11 @@ pub(crate) fn is_bad_put(extents: &Volumes, key: &Ovns) -> bool
 
 impl Dss {
     /// Why the call is refused, if it is.
-    pub(crate) fn judge(&self, client: &Name, ask: &DssAsk) -> Result<Option<DssRefusal>, AllocError>
+    pub(crate) fn judge(
+        &self,
+        client: &Name,
+        ask: &DssAsk,
+    ) -> Result<Option<DssRefusal>, AllocError>
         ensures { IfOk result (λ r. r ≡ refusal_of self.now client.now ask.now) }
     {
         match ask {

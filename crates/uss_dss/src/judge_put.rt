@@ -1,15 +1,18 @@
 //! Why a Put is refused.
 
-ghost use Rattle.std.specs.Prelude.{◌≡◌, ◌==◌, ◌<◌, not, ◌&&◌, length, filter, true, IfOk};
+ghost use Rattle.std.specs.Prelude.{◌≡◌, ℕ, List, ◌==◌, ◌<◌, not, ◌&&◌, length, filter, true, IfOk};
 ghost use Rattle.uss_law_dss.specs.Service.{in_key, lacking, relevant, shown_to};
 ghost use Rattle.uss_vol4.specs.Sharing.{any_shares};
 ghost use Rattle.uss_law_dss.specs.Refusals.{shown_all};
+ghost use Rattle.uss_dss.specs.Keys.{Finds};
 ghost use Rattle.uss_dss.specs.Parts.{flight_refusal, ticket_refusal, key_refusal, room_refusal, put_refusal, key_answer, is_missing};
 
 use crate::Dss;
-use crate::judge::{has_ovn, is_bad_put, is_keyed};
+use crate::judge::{is_bad_put, is_keyed};
+use crate::key::{has_ovn_of, key_set};
 use crate::shown::shown;
 use std::alloc::{AllocError, Global};
+use std::collections::BTreeMap;
 use uss_intent::{
     DssRefusal, FlightId, Name, Ovn, Ovns, Recorded, Reference, References, State, TicketId,
     Volumes,
@@ -146,20 +149,14 @@ fn missing(
 ) -> Result<Vec<Reference>, AllocError>
     ensures { IfOk result (λ v. v.items ≡ shown_all client.now (filter (is_missing flight extents.now key.now) references.now)) }
 {
+    let set = key_set(alloc, key.as_slice())?;
     let mut missing = Vec::new(alloc);
     for r in references {
-        if is_missing(r, flight, extents, key) {
+        if is_missing(r, flight, extents, &set) {
             missing.push(shown(client, &r.reference)?)?;
         }
     }
     Ok(missing)
-}
-
-/// Whether the key has the reference's OVN.
-fn in_key(key: &[Ovn], r: &Reference) -> bool
-    ensures { result ≡ in_key key.now r.now }
-{
-    key.iter().any(|o| has_ovn(&r.ovn, o))
 }
 
 fn any_shares(a: &[Volume4], b: &[Volume4]) -> bool
@@ -170,10 +167,15 @@ fn any_shares(a: &[Volume4], b: &[Volume4]) -> bool
 
 /// Whether the key lacks the OVN of this reference, which is another flight's and shares with the extents. Outlines are looked at
 /// last.
-fn is_missing(r: &Recorded, flight: FlightId, extents: &Volumes, key: &Ovns) -> bool
-    ensures { result ≡ is_missing flight extents.now key.now r.now }
+fn is_missing(
+    r: &Recorded,
+    flight: FlightId,
+    extents: &Volumes,
+    set: &BTreeMap<&str, bool>,
+) -> bool
+    ensures { (key : List (List ℕ)) → Finds set.now key → result ≡ is_missing flight extents.now key r.now }
 {
     r.reference.flight != flight
-        && !in_key(key.as_slice(), &r.reference)
+        && !has_ovn_of(set, &r.reference)
         && any_shares(r.extents.as_slice(), extents.as_slice())
 }

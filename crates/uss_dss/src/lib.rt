@@ -14,8 +14,11 @@ mod actions;
 mod changes;
 mod judge;
 mod judge_put;
+mod key;
 mod put;
 mod shown;
+#[cfg(test)]
+mod tests;
 
 use std::alloc::{AllocError, Global};
 use std::marker::Model;
@@ -106,7 +109,9 @@ impl Dss {
     fn recorded(&self, flight: FlightId) -> Option<&Recorded>
         ensures { option_copied result ≡ recorded_of flight self.now }
     {
-        self.references.iter().find(|r| r.reference.flight == flight)
+        self.references
+            .iter()
+            .find(|r| r.reference.flight == flight)
     }
 
     /// Why the call is refused, if it is: the first of the call's refusals, in the order of their numbers, whose test holds. Want of

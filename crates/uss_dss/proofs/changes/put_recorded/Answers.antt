@@ -12,10 +12,10 @@ returns-then-has_flight_at c =
     let y = c.if-has_flight_at.ensures.yes c.args.new in
     c.replace_at.ensures
     ∙ replaced_at c.args.new c.args.new c.args.references.now.items c.deref.result.now c.flight_of-flight.result c.place_of_flight-place.result
-      c.flight_of-flight.ensures c.deref.ensures.value c.place_of_flight-place.ensures.place (rw (c.deref.ensures.value, ← c.deref-2.ensures.value) y.0) (rw (c.deref.ensures.value, ← c.deref-2.ensures.value) y.1)
+    c.flight_of-flight.ensures c.deref.ensures.value c.place_of_flight-place.ensures.place (rw (c.deref.ensures.value, ← c.deref-2.ensures.value) y.0) (rw (c.deref.ensures.value, ← c.deref-2.ensures.value) y.1)
 
 pub returns-else-has_flight_at : goal.returns-else-has_flight_at
 returns-else-has_flight_at c =
     c.insert_at.ensures
     ∙ placed_at c.args.new c.args.references.now.items c.deref-2.result.now c.flight_of-flight.result c.place_of_flight-place.result
-      c.flight_of-flight.ensures c.deref-2.ensures.value (rw (c.deref-2.ensures.value, ← c.deref.ensures.value) c.place_of_flight-place.ensures.place) c.if-has_flight_at.ensures.no
+    c.flight_of-flight.ensures c.deref-2.ensures.value (rw (c.deref-2.ensures.value, ← c.deref.ensures.value) c.place_of_flight-place.ensures.place) c.if-has_flight_at.ensures.no
