@@ -21,12 +21,7 @@ use uss_vol4::Volume4;
 
 impl Dss {
     #[tactic(auto, unfolding(crate::specs::Parts::flight_refusal))]
-    fn judge_flight(
-        &self,
-        client: &Name,
-        flight: FlightId,
-        ovn: &Option<Ovn>,
-    ) -> Option<DssRefusal>
+    fn judge_flight(&self, client: &Name, flight: FlightId, ovn: &Option<Ovn>) -> Option<DssRefusal>
         ensures { result ≡ flight_refusal self.now client.now flight ovn.now }
     {
         if self.is_others(client, flight) {
@@ -48,12 +43,7 @@ impl Dss {
     }
 
     #[tactic(auto, unfolding(crate::specs::Parts::ticket_refusal))]
-    fn judge_ticket(
-        &self,
-        client: &Name,
-        extents: &Volumes,
-        ticket: TicketId,
-    ) -> Option<DssRefusal>
+    fn judge_ticket(&self, client: &Name, extents: &Volumes, ticket: TicketId) -> Option<DssRefusal>
         requires { 0 < length extents.now }
         ensures { result ≡ ticket_refusal self.now client.now extents.now ticket }
     {
@@ -167,12 +157,7 @@ fn any_shares(a: &[Volume4], b: &[Volume4]) -> bool
 
 /// Whether the key lacks the OVN of this reference, which is another flight's and shares with the extents. Outlines are looked at
 /// last.
-fn is_missing(
-    r: &Recorded,
-    flight: FlightId,
-    extents: &Volumes,
-    set: &BTreeMap<&str, bool>,
-) -> bool
+fn is_missing(r: &Recorded, flight: FlightId, extents: &Volumes, set: &BTreeMap<&str, bool>) -> bool
     ensures { (key : List (List ℕ)) → Finds set.now key → result ≡ is_missing flight extents.now key r.now }
 {
     r.reference.flight != flight

@@ -110,7 +110,7 @@ fn take_out(ticket: u128, version: u32) -> DssAsk {
     }
 }
 
-fn step(alloc: Global, rt: &impl Abort, dss: &mut Dss, client: &Name, ask: DssAsk) -> DssReply {
+fn step(rt: &impl Abort, dss: &mut Dss, client: &Name, ask: DssAsk) -> DssReply {
     dss.step(client, &ask).expect(rt, "memory")
 }
 
@@ -153,7 +153,6 @@ fn two_clients(rt: HostRuntime) {
     let beta = name(alloc, &rt, b"beta");
     let mut dss = Dss::new(alloc);
     let made = step(
-        alloc,
         &rt,
         &mut dss,
         &alpha,
@@ -167,7 +166,6 @@ fn two_clients(rt: HostRuntime) {
     );
     assert!(rt; made == DssReply::TicketMade(ticket(alloc, &rt)));
     let landed = step(
-        alloc,
         &rt,
         &mut dss,
         &alpha,
@@ -189,20 +187,18 @@ fn two_clients(rt: HostRuntime) {
             }
     );
     assert!(rt; dss.landings().len() == 1);
-    let got = step(alloc, &rt, &mut dss, &beta, get(FLIGHT));
+    let got = step(&rt, &mut dss, &beta, get(FLIGHT));
     assert!(rt; got == DssReply::Got(reference(alloc, &rt, None)));
     let refused = step(
-        alloc,
         &rt,
         &mut dss,
         &beta,
         remove(alloc, &rt, FLIGHT, b"ovn-0000000000000001"),
     );
     assert!(rt; refused == DssReply::Refused(DssRefusal::NotYours));
-    let refused = step(alloc, &rt, &mut dss, &alpha, take_out(TICKET, 1));
+    let refused = step(&rt, &mut dss, &alpha, take_out(TICKET, 1));
     assert!(rt; refused == DssReply::Refused(DssRefusal::TicketInUse));
     let refused = step(
-        alloc,
         &rt,
         &mut dss,
         &alpha,
@@ -210,7 +206,6 @@ fn two_clients(rt: HostRuntime) {
     );
     assert!(rt; refused == DssReply::Refused(DssRefusal::StaleOvn));
     let removed = step(
-        alloc,
         &rt,
         &mut dss,
         &alpha,
@@ -223,10 +218,9 @@ fn two_clients(rt: HostRuntime) {
                 subscribers: nobody(alloc, &rt)
             }
     );
-    let taken = step(alloc, &rt, &mut dss, &alpha, take_out(TICKET, 1));
+    let taken = step(&rt, &mut dss, &alpha, take_out(TICKET, 1));
     assert!(rt; taken == DssReply::TicketRemoved(ticket(alloc, &rt)));
     let refused = step(
-        alloc,
         &rt,
         &mut dss,
         &alpha,
@@ -235,7 +229,7 @@ fn two_clients(rt: HostRuntime) {
         },
     );
     assert!(rt; refused == DssReply::Refused(DssRefusal::Retired));
-    let refused = step(alloc, &rt, &mut dss, &beta, get(OTHER));
+    let refused = step(&rt, &mut dss, &beta, get(OTHER));
     assert!(rt; refused == DssReply::Refused(DssRefusal::Absent));
     assert!(rt;
         dss.flight_retired(FlightId::from_number(FLIGHT))
@@ -250,7 +244,6 @@ fn a_key_that_lacks_an_ovn(rt: HostRuntime) {
     let beta = name(alloc, &rt, b"beta");
     let mut dss = Dss::new(alloc);
     let _ = step(
-        alloc,
         &rt,
         &mut dss,
         &alpha,
@@ -263,7 +256,6 @@ fn a_key_that_lacks_an_ovn(rt: HostRuntime) {
         ),
     );
     let _ = step(
-        alloc,
         &rt,
         &mut dss,
         &alpha,
@@ -278,7 +270,6 @@ fn a_key_that_lacks_an_ovn(rt: HostRuntime) {
         ),
     );
     let made = step(
-        alloc,
         &rt,
         &mut dss,
         &beta,
@@ -301,7 +292,6 @@ fn a_key_that_lacks_an_ovn(rt: HostRuntime) {
             .is_ok()
     );
     let refused = step(
-        alloc,
         &rt,
         &mut dss,
         &beta,
@@ -327,217 +317,85 @@ fn number(reply: &DssReply) -> u16 {
     }
 }
 
+// 0 for a call that isn't refused.
+fn check(rt: &impl Abort, dss: &mut Dss, client: &Name, ask: DssAsk, wanted: u16) {
+    let reply = step(rt, dss, client, ask);
+    assert_eq!(rt; number(&reply), wanted);
+}
+
+// A Put of so many squares to a corner, with so many OVNs in its key.
+fn simple_put(
+    alloc: Global,
+    rt: &impl Abort,
+    flight: u128,
+    old: Option<Ovn>,
+    (count, to, key): (usize, i64, usize),
+    ticket: u128,
+) -> DssAsk {
+    put(
+        alloc,
+        rt,
+        flight,
+        old,
+        volumes(alloc, rt, count, to),
+        ovns(alloc, rt, key),
+        ticket,
+    )
+}
+
+fn recorded_once(alloc: Global, rt: &impl Abort, alpha: &Name) -> Dss {
+    let mut dss = Dss::new(alloc);
+    let area = square(alloc, rt, 0, 100, FIRST, SECOND);
+    let ask = new_ticket(alloc, rt, TICKET, area, b"http://a.test");
+    check(rt, &mut dss, alpha, ask, 0);
+    let ask = simple_put(alloc, rt, FLIGHT, None, (1, 100, 0), TICKET);
+    check(rt, &mut dss, alpha, ask, 0);
+    dss
+}
+
 #[test]
-fn each_refusal(rt: HostRuntime) {
+fn refused_puts(rt: HostRuntime) {
+    let alloc = rt.alloc();
+    let alpha = name(alloc, &rt, b"alpha");
+    let mut dss = recorded_once(alloc, &rt, &alpha);
+    let rows = [
+        (OTHER, (0, 100, 0), TICKET, 201),
+        (OTHER, (65, 100, 0), TICKET, 201),
+        (OTHER, (1, 100, 1025), TICKET, 201),
+        (FLIGHT, (1, 100, 0), TICKET, 203),
+        (OTHER, (1, 100, 0), BETAS, 207),
+        (OTHER, (1, 101, 0), TICKET, 208),
+        (OTHER, (1, 50, 0), TICKET, 209),
+        (OTHER, (64, 50, 1024), TICKET, 0),
+    ];
+    for (flight, sizes, ticket, wanted) in rows {
+        let ask = simple_put(alloc, &rt, flight, None, sizes, ticket);
+        check(&rt, &mut dss, &alpha, ask, wanted);
+    }
+}
+
+#[test]
+fn other_refusals(rt: HostRuntime) {
     let alloc = rt.alloc();
     let alpha = name(alloc, &rt, b"alpha");
     let beta = name(alloc, &rt, b"beta");
-    let mut dss = Dss::new(alloc);
-    let area = square(alloc, &rt, 0, 100, FIRST, SECOND);
-    let made = step(
+    let mut dss = recorded_once(alloc, &rt, &alpha);
+    let ask = simple_put(alloc, &rt, FLIGHT, None, (1, 100, 0), TICKET);
+    check(&rt, &mut dss, &beta, ask, 202);
+    let ask = simple_put(
         alloc,
         &rt,
-        &mut dss,
-        &alpha,
-        new_ticket(alloc, &rt, TICKET, area, b"http://a.test"),
+        OTHER,
+        first_ovn(alloc, &rt),
+        (1, 100, 0),
+        TICKET,
     );
-    assert_eq!(rt; number(&made), 0);
-    let landed = step(
-        alloc,
-        &rt,
-        &mut dss,
-        &alpha,
-        put(
-            alloc,
-            &rt,
-            FLIGHT,
-            None,
-            volumes(alloc, &rt, 1, 100),
-            ovns(alloc, &rt, 0),
-            TICKET,
-        ),
-    );
-    assert_eq!(rt; number(&landed), 0);
-    for (extents, key) in [(0, 0), (65, 0), (1, 1025)] {
-        let refused = step(
-            alloc,
-            &rt,
-            &mut dss,
-            &alpha,
-            put(
-                alloc,
-                &rt,
-                OTHER,
-                None,
-                volumes(alloc, &rt, extents, 100),
-                ovns(alloc, &rt, key),
-                TICKET,
-            ),
-        );
-        assert_eq!(rt; number(&refused), 201);
-    }
-    let refused = step(
-        alloc,
-        &rt,
-        &mut dss,
-        &beta,
-        put(
-            alloc,
-            &rt,
-            FLIGHT,
-            None,
-            volumes(alloc, &rt, 1, 100),
-            ovns(alloc, &rt, 0),
-            TICKET,
-        ),
-    );
-    assert_eq!(rt; number(&refused), 202);
-    let refused = step(
-        alloc,
-        &rt,
-        &mut dss,
-        &alpha,
-        put(
-            alloc,
-            &rt,
-            FLIGHT,
-            None,
-            volumes(alloc, &rt, 1, 100),
-            ovns(alloc, &rt, 0),
-            TICKET,
-        ),
-    );
-    assert_eq!(rt; number(&refused), 203);
-    let refused = step(
-        alloc,
-        &rt,
-        &mut dss,
-        &alpha,
-        put(
-            alloc,
-            &rt,
-            OTHER,
-            first_ovn(alloc, &rt),
-            volumes(alloc, &rt, 1, 100),
-            ovns(alloc, &rt, 0),
-            TICKET,
-        ),
-    );
-    assert_eq!(rt; number(&refused), 205);
-    let refused = step(
-        alloc,
-        &rt,
-        &mut dss,
-        &alpha,
-        put(
-            alloc,
-            &rt,
-            OTHER,
-            None,
-            volumes(alloc, &rt, 1, 100),
-            ovns(alloc, &rt, 0),
-            BETAS,
-        ),
-    );
-    assert_eq!(rt; number(&refused), 207);
-    let refused = step(
-        alloc,
-        &rt,
-        &mut dss,
-        &alpha,
-        put(
-            alloc,
-            &rt,
-            OTHER,
-            None,
-            volumes(alloc, &rt, 1, 101),
-            ovns(alloc, &rt, 0),
-            TICKET,
-        ),
-    );
-    assert_eq!(rt; number(&refused), 208);
-    let refused = step(
-        alloc,
-        &rt,
-        &mut dss,
-        &alpha,
-        put(
-            alloc,
-            &rt,
-            OTHER,
-            None,
-            volumes(alloc, &rt, 1, 50),
-            ovns(alloc, &rt, 0),
-            TICKET,
-        ),
-    );
-    assert_eq!(rt; number(&refused), 209);
-    let landed = step(
-        alloc,
-        &rt,
-        &mut dss,
-        &alpha,
-        put(
-            alloc,
-            &rt,
-            OTHER,
-            None,
-            volumes(alloc, &rt, 1, 50),
-            ovns(alloc, &rt, 1),
-            TICKET,
-        ),
-    );
-    assert_eq!(rt; number(&landed), 0);
-    let changed = step(
-        alloc,
-        &rt,
-        &mut dss,
-        &alpha,
-        put(
-            alloc,
-            &rt,
-            FLIGHT,
-            first_ovn(alloc, &rt),
-            volumes(alloc, &rt, 64, 100),
-            ovns(alloc, &rt, 0),
-            TICKET,
-        ),
-    );
-    assert_eq!(rt; number(&changed), 209);
-    let refused = step(
-        alloc,
-        &rt,
-        &mut dss,
-        &alpha,
-        remove(alloc, &rt, OTHER, b"ovn-0000000000000001"),
-    );
-    assert_eq!(rt; number(&refused), 206);
-    let refused = step(alloc, &rt, &mut dss, &alpha, take_out(TICKET, 2));
-    assert_eq!(rt; number(&refused), 206);
-    let refused = step(alloc, &rt, &mut dss, &alpha, take_out(TICKET, 1));
-    assert_eq!(rt; number(&refused), 210);
-    let removed = step(
-        alloc,
-        &rt,
-        &mut dss,
-        &alpha,
-        remove(alloc, &rt, FLIGHT, b"ovn-0000000000000001"),
-    );
-    assert_eq!(rt; number(&removed), 0);
-    let refused = step(
-        alloc,
-        &rt,
-        &mut dss,
-        &alpha,
-        put(
-            alloc,
-            &rt,
-            FLIGHT,
-            None,
-            volumes(alloc, &rt, 1, 100),
-            ovns(alloc, &rt, 0),
-            TICKET,
-        ),
-    );
-    assert_eq!(rt; number(&refused), 204);
+    check(&rt, &mut dss, &alpha, ask, 205);
+    let ask = remove(alloc, &rt, FLIGHT, b"ovn-0000000000000002");
+    check(&rt, &mut dss, &alpha, ask, 206);
+    check(&rt, &mut dss, &alpha, take_out(TICKET, 2), 206);
+    check(&rt, &mut dss, &alpha, take_out(TICKET, 1), 210);
+    let ask = remove(alloc, &rt, FLIGHT, b"ovn-0000000000000001");
+    check(&rt, &mut dss, &alpha, ask, 0);
+    check(&rt, &mut dss, &alpha, get(FLIGHT), 204);
 }
