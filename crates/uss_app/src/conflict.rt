@@ -85,7 +85,7 @@ fn refused(alloc: Global, refusal: ScriptRefusal) -> Result<Answer, Stop>
 
 /// The least pair of places that shares, or that there is none.
 fn compared(alloc: Global, script: &ConflictScript) -> Result<String, AllocError>
-    ensures { IfOk result (λ text. Compared (lists script.now.a.items script.now.b.items) (string_bytes text)) }
+    ensures { IfOk result (λ text. Compared (lists script.now.a script.now.b) (string_bytes text)) }
 {
     match Volume4::any_shared(script.a.as_slice(), script.b.as_slice()) {
         Some((i, j)) => shares(alloc, i, j),

@@ -4,3 +4,5 @@ pub mod Refusals
 pub mod Reading
 pub mod Volumes
 pub mod Conflict
+pub mod Intents
+pub mod Discover

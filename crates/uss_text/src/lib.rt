@@ -2,7 +2,10 @@
 //! over its bytes, apart from the readers here, which go through the bytes once and copy none of them.
 #![tactic(auto)]
 
+mod asks;
 mod conflict;
+mod discover;
+mod intents;
 mod lines;
 mod numbers;
 mod refusal;
@@ -10,4 +13,5 @@ mod volumes;
 mod words;
 
 pub use conflict::{ConflictScript, read_conflict};
+pub use discover::{DiscoverLine, DiscoverLines, read_discover};
 pub use refusal::{ScriptRefusal, WordRefusal};
