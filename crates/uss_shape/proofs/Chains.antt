@@ -1,5 +1,5 @@
 use Rattle.uss_shape.specs.Words.{SomeEdge, SomeCommon}
-use Rattle.std.proofs.Common.{◌≡◌, ℕ, zero, suc, ◌+◌, ◌-◌, ◌<◌, ◌≤◌, ◌⊎◌, ◌↔◌, inl, inr, refl, ap, sym, ◌∙◌, arith, List, [], ◌∷◌, ◌++◌, length, get_or, take, drop}
+use Rattle.std.proofs.Common.{◌≡◌, ℕ, zero, suc, ◌-◌, ◌<◌, ◌≤◌, ◌⊎◌, ◌↔◌, inl, inr, refl, ap, arith, List, [], ◌∷◌, ◌++◌, length, get_or, take, drop}
 use Rattle.std.proofs.lemmas.List.{take_all, length-drop}
 use Rattle.uss_shape.specs.declared.Place.{Place}
 use Rattle.uss_shape.specs.Plane.{Edge, edge, edges_from, Common}

@@ -2,7 +2,6 @@
 use Rattle.uss_shape.proofs.Ring.{lin}
 use Rattle.std.proofs.Common.{◌≡◌, true, false, inl, inr, refl, arith, List, [], ◌∷◌, ℤ, pos}
 use Rattle.std.specs.Prelude.{neg_ℤ, ◌≤ℤ◌}
-use borrow.Author.Differences.{ints}
 use Rattle.uss_shape.specs.declared.Place.{Place}
 use Rattle.uss_shape.specs.Plane.{Meet}
 use Rattle.uss_shape.specs.Overlap.{region_holds, region_holds_first, outlines_meet}

@@ -1,11 +1,10 @@
 use Rattle.uss_shape.proofs.Ring.{lin, linc}
-use Rattle.std.proofs.lemmas.Int.{by_lt_z, clamps}
-use Rattle.std.proofs.Common.{◌≡◌, ℕ, suc, ◌<◌, ◌⊎◌, inl, inr, refl, sym, ◌∙◌, arith, List, [], ◌∷◌, length, get_or, ℤ}
+use Rattle.std.proofs.lemmas.Int.{by_lt_z}
+use Rattle.std.proofs.Common.{◌≡◌, suc, ◌<◌, ◌⊎◌, inl, inr, refl, sym, ◌∙◌, arith, List, [], ◌∷◌, length, get_or, ℤ}
 use Rattle.std.specs.Prelude.{◌≤ℤ◌, All, Any}
 use Rattle.std.specs.Int.{int_min, int_max}
 use Rattle.std.specs.List.{fold}
 use Rattle.std.proofs.lemmas.List.Elements.{All-nil, All-cons}
-use borrow.Author.Differences.{ints}
 use Rattle.uss_shape.specs.declared.Place.{Place}
 use Rattle.uss_shape.specs.declared.Rect.{Rect}
 use Rattle.uss_shape.specs.Words.{IsWithin, Covers}

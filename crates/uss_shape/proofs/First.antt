@@ -1,8 +1,7 @@
 use Rattle.uss_shape.specs.Words.{Caught, SomeCommon, InR, SomeEdge, odd}
-use Rattle.std.proofs.Common.{◌≡◌, ℕ, ◌<◌, ◌%◌, ◌↔◌, ◌⊎◌, inl, inr, Bool, true, cond, refl, ap, sym, ◌∙◌, arith, List, [], ◌∷◌, length, get_or}
+use Rattle.std.proofs.Common.{◌≡◌, ◌<◌, ◌↔◌, ◌⊎◌, inl, inr, Bool, true, cond, ap, sym, ◌∙◌, arith, List, [], ◌∷◌, length, get_or}
 use Rattle.uss_shape.specs.declared.Place.{Place}
-use Rattle.std.specs.List.{Any, count_by}
-use Rattle.uss_shape.specs.Plane.{Edge, edge, edges, edges_from, last_of, is_above, parity_above, IsOn, InRegion, Common, Meet, ParityIsKept}
+use Rattle.uss_shape.specs.Plane.{Edge, edge, edges, edges_from, last_of, is_above, IsOn, InRegion, Common, Meet, ParityIsKept}
 use Rattle.uss_shape.proofs.Closing.{AllEdges, map_edges}
 use Rattle.uss_shape.proofs.Touch.{swapped_common}
 use Rattle.uss_shape.proofs.Meeting.{at_place, on_left, on_right}

@@ -1,5 +1,7 @@
 pub mod Cutting
 pub mod Digits
+pub mod Decimal
+pub mod Signed
 pub mod Many
 pub mod Places
 pub mod Made

@@ -6,3 +6,4 @@ pub mod Volumes
 pub mod Conflict
 pub mod Intents
 pub mod Discover
+pub mod Replies

@@ -9,9 +9,15 @@ mod intents;
 mod lines;
 mod numbers;
 mod refusal;
+mod replies;
 mod volumes;
 mod words;
 
 pub use conflict::{ConflictScript, read_conflict};
 pub use discover::{DiscoverLine, DiscoverLines, read_discover};
+pub use numbers::{integer, natural};
 pub use refusal::{ScriptRefusal, WordRefusal};
+pub use replies::write_reply;
+
+#[cfg(test)]
+mod tests;

@@ -1,6 +1,5 @@
 -- Worked examples of the definitions and of the tests that compute.
-use Rattle.std.proofs.Common.{◌≡◌, ℕ, ◌+◌, true, false, refl, List, [], ◌∷◌, ℤ, pos}
-use Rattle.uss_shape.specs.declared.Place.{Place}
+use Rattle.std.proofs.Common.{◌≡◌, ℕ, ◌+◌, true, false, refl, [], ◌∷◌, pos}
 use Rattle.uss_shape.specs.declared.Rect.{Rect}
 use Rattle.uss_shape.specs.Shape.{corners}
 use Rattle.uss_shape.specs.Overlap.{region_holds, region_holds_first, outlines_meet}

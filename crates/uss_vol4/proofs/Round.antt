@@ -1,13 +1,11 @@
-use Rattle.std.proofs.Common.{◌≡◌, ℕ, zero, suc, ◌<◌, ◌⊎◌, inl, inr, refl, sym, ◌∙◌, ap, arith, List, [], ◌∷◌, ◌++◌, length, get_or, ℤ, pos}
+use Rattle.std.proofs.Common.{◌≡◌, zero, suc, ◌<◌, ◌⊎◌, inl, inr, refl, ◌∙◌, arith, List, [], ◌∷◌, ◌++◌, length, get_or, ℤ}
 use Rattle.std.specs.Prelude.{◌≤ℤ◌, All, Any, Result, Ok, Err, IfErr}
 use Rattle.std.specs.Int.{int_min, int_max}
 use Rattle.std.specs.List.{fold, flat_map}
 use Rattle.std.proofs.lemmas.Int.{ints, clamps}
 use Rattle.std.proofs.lemmas.List.Elements.{All-nil, All-cons, All-head, All-tail, All-append}
 use Rattle.uss_shape.specs.declared.Place.{Place}
-use Rattle.uss_shape.specs.declared.Rect.{Rect}
-use Rattle.uss_shape.specs.Plane.{InPlane}
-use Rattle.uss_shape.specs.Shape.{IsOutline, IsLeast, IsGreatest, IsBounds, bounds_of, corners}
+use Rattle.uss_shape.specs.Shape.{IsLeast, IsGreatest, IsBounds, bounds_of}
 use Rattle.uss_shape.proofs.Extreme.{any_here, any_more, least_from, greatest_from, least_of, greatest_of, bounds_are}
 use Rattle.uss_vol4.specs.declared.Box4.{Box4}
 use Rattle.uss_vol4.specs.Volume.{Volume4D, IsVolume, InAltitude, InTime}

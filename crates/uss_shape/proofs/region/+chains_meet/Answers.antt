@@ -1,4 +1,4 @@
-use Rattle.std.proofs.Common.{ℕ, ◌+◌, ◌-◌, ◌/◌, ◌<◌, ◌≤◌, inl, inr, refl, arith, rules, length, get_or}
+use Rattle.std.proofs.Common.{◌-◌, ◌/◌, ◌<◌, inl, inr, refl, arith, length, get_or}
 use Rattle.std.proofs.lemmas.Grind.{common_steps}
 use Rattle.uss_shape.specs.Plane.{InPlane, edges_from}
 use Rattle.uss_shape.proofs.Walk.{origin, false_is}

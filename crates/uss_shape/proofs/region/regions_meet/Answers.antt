@@ -1,4 +1,4 @@
-use Rattle.std.proofs.Common.{◌≡◌, ◌↔◌, ◌-◌, inl, inr, refl, length, get_or, IsTrue}
+use Rattle.std.proofs.Common.{◌↔◌, ◌-◌, inl, inr, refl, length, get_or, IsTrue}
 use Rattle.uss_shape.specs.Plane.{edges}
 use Rattle.uss_shape.specs.Words.{SomeCommon}
 use Rattle.uss_shape.proofs.Walk.{origin, false_is, edges_is}

@@ -1,0 +1,5 @@
+mod Append
+mod Behind
+mod Bytes
+mod Chain
+mod Stands
