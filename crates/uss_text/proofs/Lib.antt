@@ -7,3 +7,4 @@ pub mod Places
 pub mod Made
 pub mod Script
 pub mod Each
+pub mod Replying

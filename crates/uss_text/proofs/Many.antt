@@ -1,5 +1,5 @@
 -- So many values, one behind another.
-use Rattle.std.proofs.Common.{◌≡◌, ℕ, suc, ◌-◌, ◌<◌, List, [], ◌∷◌, ◌++◌, Result, Ok, Err, refl, sym, ap, subst, ◌∙◌, arith, append_assoc, append-nil}
+use Rattle.std.proofs.Common.{◌≡◌, ℕ, suc, ◌-◌, ◌<◌, List, [], ◌∷◌, ◌++◌, Result, Ok, Err, refl, sym, ap, ◌∙◌, arith, append_assoc, append-nil}
 use Rattle.uss_text.specs.declared.refusal.WordRefusal.{WordRefusal}
 use Rattle.uss_text.specs.Reading.{◌>>=◌, Words, Read, read, Reader, many_at}
 

@@ -1,5 +1,5 @@
 -- The vertices of a polygon, of which no more than 1,001 are kept.
-use Rattle.std.proofs.Common.{◌≡◌, ℕ, zero, suc, ◌-◌, ◌<◌, ◌≤◌, Bool, true, false, List, [], ◌∷◌, ◌++◌, length, take, Result, Ok, Err, ℤ, refl, sym, ap, subst, ◌∙◌, arith, if◌then◌else◌}
+use Rattle.std.proofs.Common.{◌≡◌, ℕ, zero, suc, ◌-◌, ◌<◌, ◌≤◌, Bool, true, false, List, [], ◌∷◌, ◌++◌, length, take, Result, Ok, Err, ℤ, refl, sym, ap, ◌∙◌, arith, if◌then◌else◌}
 use Rattle.std.specs.Prelude.{bytes_eq, codes, nat_lt}
 use Rattle.std.proofs.Math.ListN.{length-take, length-append}
 use Rattle.std.proofs.lemmas.List.{take-append-le}
@@ -8,7 +8,7 @@ use Rattle.uss_shape.specs.declared.Place.{Place}
 use Rattle.uss_vol4.specs.Volume.{Volume4D}
 use Rattle.uss_text.specs.declared.refusal.WordRefusal.{WordRefusal}
 use Rattle.uss_text.specs.declared.refusal.WordRefusal.TheVariants.{BadLine, TooManyVertices}
-use Rattle.uss_text.specs.Reading.{◌>>=◌, Words, Read, read, Reader, word_at, integer_at, many_at}
+use Rattle.uss_text.specs.Reading.{◌>>=◌, Words, Read, read, word_at, integer_at, many_at}
 use Rattle.uss_text.specs.Volumes.{place_at, poly_at, rect_at, vertices_of, vertices_at, kept, kept_vertices_of, kept_vertices_at, volume_of, volume_behind, volume_at}
 use Rattle.uss_text.proofs.Made.{lt_true, lt_false}
 use Rattle.uss_text.proofs.Many.{in_front, step_from, stop_from, end_from}

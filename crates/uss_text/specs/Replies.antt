@@ -29,16 +29,18 @@ abbrev pub ovn_text : Option (List ℕ) → List ℕ
 ovn_text None = codes "-"
 ovn_text (Some ovn) = ovn
 
--- what stands in front of the OVN of a reference, and behind it
+-- `ref FLIGHT MANAGER VERSION STATE OVN START END BASE TICKET`
+unfoldable pub reference_line : Reference → List ℕ
+reference_line r = line
+    (codes "ref" ∷ identifier_text r.flight ∷ r.manager ∷ decimal r.version ∷ state_text r.state ∷ ovn_text r.ovn
+    ∷ signed_decimal r.start ∷ signed_decimal r.end ∷ r.base ∷ identifier_text r.ticket ∷ [])
+
+-- the same in parts: what stands in front of the OVN of a reference, and behind it
 abbrev pub reference_front : Reference → List ℕ
 reference_front r = spaced (codes "ref" ∷ identifier_text r.flight ∷ r.manager ∷ decimal r.version ∷ state_text r.state ∷ [])
 
 abbrev pub reference_back : Reference → List ℕ
 reference_back r = codes " " ++ line (signed_decimal r.start ∷ signed_decimal r.end ∷ r.base ∷ identifier_text r.ticket ∷ [])
-
--- `ref FLIGHT MANAGER VERSION STATE OVN START END BASE TICKET`
-unfoldable pub reference_line : Reference → List ℕ
-reference_line r = reference_front r ++ (ovn_text r.ovn ++ reference_back r)
 
 -- `sub TICKET INDEX BASE`
 unfoldable pub subscriber_line : Subscriber → List ℕ

@@ -2,7 +2,7 @@ ghost use Rattle.std.specs.Prelude.{◌≡◌, ◌<◌, ◌^◌, length, OnOk, I
 ghost use Rattle.uss_text.specs.Reading.{Gives, LineGives, ScriptGives};
 ghost use Rattle.uss_text.specs.Conflict as spec;
 
-use crate::lines::Lines;
+use crate::lines::{Lines, MOST_BYTES};
 use crate::refusal::{ScriptRefusal, WordRefusal};
 use crate::volumes::volume;
 use crate::words::Words;
@@ -37,9 +37,6 @@ impl ConflictScript {
         Ok(())
     }
 }
-
-/// The most bytes of a script: 64 MiB.
-const MOST: usize = 67_108_864;
 
 /// The list that the line adds to.
 #[tactic(auto, unfolding(crate::specs::Conflict::side_at))]
@@ -79,7 +76,7 @@ fn read_line(alloc: Global, line: &[u8]) -> Result<Placed, WordRefusal>
 pub fn read_conflict(alloc: Global, text: &[u8]) -> Result<ConflictScript, ScriptRefusal>
     ensures { ScriptGives (λ s. spec.lists s.a s.b) result (spec.conflict_script text.now) }
 {
-    if text.len() > MOST {
+    if text.len() > MOST_BYTES {
         return Err(ScriptRefusal::TextTooLarge);
     }
     read_lines(alloc, Lines::of(text))

@@ -4,7 +4,7 @@ ghost use Rattle.uss_text.specs.Discover as spec;
 
 use crate::asks::ask;
 use crate::intents::name;
-use crate::lines::Lines;
+use crate::lines::{Lines, MOST_BYTES};
 use crate::refusal::{ScriptRefusal, WordRefusal};
 use crate::words::Words;
 use std::alloc::Global;
@@ -20,9 +20,6 @@ pub struct DiscoverLine {
 
 /// The calls of a script, in the order of its lines.
 pub type DiscoverLines = Sequence<DiscoverLine>;
-
-/// The most bytes of a script: 64 MiB.
-const MOST: usize = 67_108_864;
 
 #[tactic(auto, unfolding(crate::specs::Discover::discover_line))]
 fn read_line(alloc: Global, line: &[u8]) -> Result<DiscoverLine, WordRefusal>
@@ -41,7 +38,7 @@ fn read_line(alloc: Global, line: &[u8]) -> Result<DiscoverLine, WordRefusal>
 pub fn read_discover(alloc: Global, text: &[u8]) -> Result<DiscoverLines, ScriptRefusal>
     ensures { ScriptGives (λ lines. lines) result (spec.discover_script text.now) }
 {
-    if text.len() > MOST {
+    if text.len() > MOST_BYTES {
         return Err(ScriptRefusal::TextTooLarge);
     }
     read_lines(alloc, Lines::of(text))

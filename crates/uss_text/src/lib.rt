@@ -15,6 +15,7 @@ mod words;
 
 pub use conflict::{ConflictScript, read_conflict};
 pub use discover::{DiscoverLine, DiscoverLines, read_discover};
+pub use lines::MOST_BYTES;
 pub use numbers::{integer, natural};
 pub use refusal::{ScriptRefusal, WordRefusal};
 pub use replies::write_reply;

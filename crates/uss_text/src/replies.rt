@@ -38,7 +38,6 @@ fn write_back(reference: &Reference, text: &mut String) -> Result<(), AllocError
 }
 
 /// Appends the line of a reference.
-#[tactic(auto, unfolding(crate::specs::Replies::reference_line))]
 fn write_reference(reference: &Reference, text: &mut String) -> Result<(), AllocError>
     ensures { OnOk result (string_bytes text.new ≡ string_bytes text.old ++ spec.reference_line reference.now) }
 {

@@ -394,9 +394,15 @@ fn replies_are_written(rt: HostRuntime) -> Result<(), Fail> {
         (DssReply::Found(References::new(alloc)), "<found 0;"),
         (DssReply::Found(references(alloc)?), "<found 2;@S@N"),
         (DssReply::Got(reference(alloc, None)?), "<@N"),
-        (landed, "<landed;@Ssubscribers 1;sub @T 18446744073709551615 @B;"),
+        (
+            landed,
+            "<landed;@Ssubscribers 1;sub @T 18446744073709551615 @B;",
+        ),
         (removed, "<removed;@Nsubscribers 0;"),
-        (DssReply::TicketMade(ticket(alloc)?), "<ticket @T alpha 1 3;"),
+        (
+            DssReply::TicketMade(ticket(alloc)?),
+            "<ticket @T alpha 1 3;",
+        ),
         (DssReply::TicketGot(ticket(alloc)?), "<ticket @T alpha 1 3;"),
         (DssReply::TicketRemoved(ticket(alloc)?), "<tremoved @T;"),
         (DssReply::Refused(DssRefusal::Absent), "<refused 205;"),

@@ -1,4 +1,4 @@
-use Rattle.std.proofs.Common.{◌∙◌, ap, sym, arith}
+use Rattle.std.proofs.Common.{◌∙◌, arith}
 use Rattle.uss_text.proofs.Places.{put_behind, no_room}
 use Rattle.uss_text.proofs.volumes.keep.Goals as goal
 
