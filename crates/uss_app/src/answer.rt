@@ -40,11 +40,7 @@ impl From<AllocError> for Stop {
 const MOST: usize = 67_108_864;
 
 /// Reads the input to its end and says what is to be written of it.
-pub fn answer_to<S: Source>(
-    alloc: Global,
-    command: Command,
-    input: &mut S,
-) -> Result<Answer, Stop>
+pub fn answer_to<S: Source>(alloc: Global, command: Command, input: &mut S) -> Result<Answer, Stop>
     ensures kept { S.faults input.old ≤ S.faults input.new }
     ensures fault { IsErrOf result Stop.Fault → Rose (S.faults input.old) (S.faults input.new) }
     ensures status { IfOk result (λ a. a.status ≤ 1) }

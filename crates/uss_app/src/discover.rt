@@ -1,4 +1,6 @@
-ghost use Rattle.std.specs.Prelude.{◌≡◌, ◌≤◌, string_bytes, IfOk, IfErr};
+ghost use Rattle.std.specs.Prelude.{◌≡◌, ◌≤◌, ◌++◌, string_bytes, IfOk, IfErr, OnOk};
+ghost use Rattle.uss_law_dss.specs.Step.{service_step};
+ghost use Rattle.uss_text.specs.Replies.{reply_text};
 ghost use Rattle.uss_app.specs.declared.commands.Command.{Command};
 ghost use Rattle.uss_app.specs.Discover.{replies_of};
 ghost use Rattle.uss_app.specs.Says.{Says};
@@ -31,8 +33,16 @@ fn replies(alloc: Global, lines: &[DiscoverLine]) -> Result<String, AllocError>
     let mut service = Dss::new(alloc);
     let mut text = String::new(alloc);
     for line in lines {
-        let reply = service.step(&line.client, &line.ask)?;
-        write_reply(&reply, &mut text)?;
+        carry_out(&mut service, line, &mut text)?;
     }
     Ok(text)
+}
+
+/// Carries out one call, and appends the text of its reply.
+fn carry_out(service: &mut Dss, line: &DiscoverLine, text: &mut String) -> Result<(), AllocError>
+    ensures state { OnOk result (service.new ≡ (service_step service.old line.now.client line.now.ask).1) }
+    ensures text { OnOk result (string_bytes text.new ≡ string_bytes text.old ++ reply_text (service_step service.old line.now.client line.now.ask).0) }
+{
+    let reply = service.step(&line.client, &line.ask)?;
+    write_reply(&reply, text)
 }
