@@ -182,3 +182,84 @@ fn calls_are_carried_out(rt: HostRuntime) -> Result<(), Fail> {
     }
     Ok(())
 }
+
+/// A call on the service after alpha's ticket and flight, whose reply ends so.
+const REFUSALS: [(&str, &str); 14] = [
+    (
+        "alpha put 00000003-0000-4000-8000-000000000001 - Accepted http://a.test/a/2 00000001-0001-4000-8000-000000000001 key 0 vols 0",
+        "refused 201\n",
+    ),
+    (
+        "beta remove 00000001-0000-4000-8000-000000000001 ovn-0000000000000001",
+        "refused 202\n",
+    ),
+    (
+        "beta tget 00000001-0001-4000-8000-000000000001",
+        "refused 202\n",
+    ),
+    (
+        "alpha put 00000001-0000-4000-8000-000000000001 - Accepted http://a.test/a/2 00000001-0001-4000-8000-000000000001 key 0 vols 1 rect 0 0 100 100 0 1000 1700003600000000000 1700005400000000000",
+        "refused 203\n",
+    ),
+    (
+        "alpha tput 00000001-0001-4000-8000-000000000001 http://a.test rect 0 0 100 100 0 1000 1700003600000000000 1700005400000000000",
+        "refused 203\n",
+    ),
+    (
+        "alpha put 00000003-0000-4000-8000-000000000001 ovn-0000000000000001 Accepted http://a.test/a/2 00000001-0001-4000-8000-000000000001 key 0 vols 1 rect 0 0 100 100 0 1000 1700003600000000000 1700005400000000000",
+        "refused 205\n",
+    ),
+    (
+        "beta get 00000003-0000-4000-8000-000000000001",
+        "refused 205\n",
+    ),
+    (
+        "alpha remove 00000001-0000-4000-8000-000000000001 ovn-0000000000000009",
+        "refused 206\n",
+    ),
+    (
+        "alpha tremove 00000001-0001-4000-8000-000000000001 2",
+        "refused 206\n",
+    ),
+    (
+        "alpha put 00000003-0000-4000-8000-000000000001 - Accepted http://a.test/a/2 00000009-0001-4000-8000-000000000001 key 0 vols 1 rect 0 0 100 100 0 1000 1700003600000000000 1700005400000000000",
+        "refused 207\n",
+    ),
+    (
+        "alpha put 00000003-0000-4000-8000-000000000001 - Accepted http://a.test/a/2 00000001-0001-4000-8000-000000000001 key 0 vols 1 rect 0 0 101 100 0 1000 1700003600000000000 1700005400000000000",
+        "refused 208\n",
+    ),
+    (
+        "alpha put 00000003-0000-4000-8000-000000000001 - Accepted http://a.test/a/2 00000001-0001-4000-8000-000000000001 key 0 vols 1 rect 0 0 100 100 0 1000 1700003600000000000 1700005400000000000",
+        "refused 209\nmissing 1\nref 00000001-0000-4000-8000-000000000001 alpha 1 Accepted ovn-0000000000000001 1700003600000000000 1700005400000000000 http://a.test/a/1 00000001-0001-4000-8000-000000000001\n",
+    ),
+    (
+        "alpha tremove 00000001-0001-4000-8000-000000000001 1",
+        "refused 210\n",
+    ),
+    (
+        "beta query rect 100 100 200 200 0 1000 1700005400000000000 1700007200000000000",
+        "found 1\nref 00000001-0000-4000-8000-000000000001 alpha 1 Accepted - 1700003600000000000 1700005400000000000 http://a.test/a/1 00000001-0001-4000-8000-000000000001\n",
+    ),
+];
+
+const BEGUN: &str =
+    "alpha tput 00000001-0001-4000-8000-000000000001 http://a.test rect 0 0 100 100 0 1000 1700003600000000000 1700005400000000000
+alpha put 00000001-0000-4000-8000-000000000001 - Accepted http://a.test/a/1 00000001-0001-4000-8000-000000000001 key 0 vols 1 rect 0 0 100 100 0 1000 1700003600000000000 1700005400000000000
+";
+
+#[test]
+fn each_refusal_has_its_number(rt: HostRuntime) -> Result<(), Fail> {
+    let alloc = rt.alloc();
+    for (call, end) in REFUSALS {
+        let script = format!(in alloc; "{BEGUN}{call}")?;
+        let found = run_of(
+            alloc,
+            "discover",
+            Vec::from_slice(alloc, script.as_bytes())?,
+        )?;
+        assert_eq!(rt; found.0, 0, "{call}");
+        assert!(rt; found.1.as_slice().ends_with(end.as_bytes()), "{call}");
+    }
+    Ok(())
+}
