@@ -13,6 +13,8 @@ mod names;
 mod records;
 mod refusals;
 mod tags;
+#[cfg(test)]
+mod tests;
 
 pub use bases::Base;
 pub use calls::{DssAsk, DssRefusal, DssReply};

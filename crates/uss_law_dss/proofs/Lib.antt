@@ -1,0 +1,13 @@
+pub mod Lists
+pub mod Tests
+pub mod Ovns
+pub mod EachEffect
+pub mod Placed
+pub mod Raised
+pub mod History
+pub mod Retired
+pub mod AfterPut
+pub mod AfterOthers
+pub mod EachOrderly
+pub mod EachFits
+pub mod Points

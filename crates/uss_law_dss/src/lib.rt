@@ -1,0 +1,83 @@
+//! What the discovery service (the DSS of ASTM F3548-21) is to answer: definitions and laws, and no code that runs.
+//!
+//! `specs/Service.antt` has the state, `specs/Refusals.antt` when a call is refused, `specs/Step.antt` what a call does, and
+//! `specs/Fits.antt` which replies fit a call. The functions below do nothing: their contracts carry the laws.
+#![tactic(auto)]
+
+ghost use Rattle.std.specs.Prelude.{◌≡◌, ◌≢◌, ◌↔◌, ◌<◌, ◌^◌, ◌+◌, ℕ, List, length, Any, IsTrue, true, Some};
+ghost use Rattle.uss_vol4.specs.Volume.{Volume4D, Shares, ListsShare};
+ghost use Rattle.uss_intent.specs.declared.calls.DssAsk.{DssAsk};
+ghost use Rattle.uss_intent.specs.declared.calls.DssReply.TheVariants.{Refused};
+ghost use Rattle.uss_intent.specs.declared.calls.DssRefusal.{DssRefusal};
+ghost use Rattle.uss_intent.specs.declared.records.Landing.{Landing};
+ghost use Rattle.uss_intent.specs.declared.records.Ticket.{Ticket};
+ghost use Rattle.uss_intent.specs.declared.records.Recorded.{Recorded};
+ghost use Rattle.uss_intent.specs.Texts.{IsOvn};
+ghost use Rattle.uss_law_dss.specs.Lists.{Has};
+ghost use Rattle.uss_law_dss.specs.Refusals.{refusal_of};
+ghost use Rattle.uss_law_dss.specs.Service.{Service, empty, ovn_of, relevant};
+ghost use Rattle.uss_law_dss.specs.Step.{service_step, replies_to, state_after, found_in, is_told};
+ghost use Rattle.uss_law_dss.specs.Effects.{Effect};
+ghost use Rattle.uss_law_dss.specs.Orderly.{IsOrderly};
+ghost use Rattle.uss_law_dss.specs.Fits.{fits};
+ghost use Rattle.uss_law_dss.specs.Transcript.{calls, the_replies, contested, the_contested_replies};
+
+/// The worked calls, and the replies to them in order.
+pub fn worked_calls()
+    ensures { replies_to empty calls ≡ the_replies }
+{}
+
+/// Two clients over one area: the key, the references that it lacks, who is told, and what is shown to whom.
+pub fn contested_calls()
+    ensures { replies_to empty contested ≡ the_contested_replies }
+{}
+
+/// Which references are relevant to a change, which of them a query finds, and which tickets are told: those that have
+/// a point in common, of airspace and time.
+pub fn sharing_is_of_points()
+    ensures relevant { (s : Service) (flight : ℕ) (extents : List Volume4D) (r : Recorded)
+        → Has (relevant flight extents s) r ↔ (Has s.references r × (r.reference.flight ≢ flight) × ListsShare r.extents extents) }
+    ensures found { (area : Volume4D) (rs : List Recorded) (r : Recorded) → Has (found_in area rs) r ↔ (Has rs r × Any (λ v. Shares v area) r.extents) }
+    ensures told { (client : List ℕ) (extents : List Volume4D) (t : Ticket)
+        → IsTrue (is_told client extents t) ↔ ((t.manager ≢ client) × Any (λ v. Shares v t.area) extents) }
+{}
+
+/// What a call may do: it lands, removes, makes a ticket, takes a ticket out, or leaves all as it is; each with what
+/// the call's tests said.
+pub fn effects()
+    ensures { (s : Service) (client : List ℕ) (ask : DssAsk) → Effect s client ask (service_step s client ask) }
+{}
+
+/// A refused call changes nothing.
+pub fn refusals_change_nothing()
+    ensures { (s : Service) (client : List ℕ) (ask : DssAsk) (refusal : DssRefusal) → refusal_of s client ask ≡ Some refusal → service_step s client ask ≡ (Refused refusal, s) }
+{}
+
+/// What holds of a new service, and after each call where it held before it: so it holds after all calls.
+pub fn states_are_orderly()
+    ensures new { IsOrderly empty }
+    ensures step { (s : Service) (client : List ℕ) (ask : DssAsk) → IsOrderly s → IsOrderly (service_step s client ask).1 }
+    ensures all { (calls : List (List ℕ × DssAsk)) → IsOrderly (state_after empty calls) }
+{}
+
+/// An OVN belongs to one landing.
+pub fn ovns_belong_to_one_landing()
+    ensures { (s : Service) → IsOrderly s → (l m : Landing) → Has s.landings l → Has s.landings m → l.ovn ≡ m.ovn → l ≡ m }
+{}
+
+/// The OVNs of the first 9,999,999,999,999,999 landings are OVNs, and they differ.
+pub fn ovns_of_landings()
+    ensures valid { (n : ℕ) → IsOvn (ovn_of n) }
+    ensures differ { (m n : ℕ) → m < 10 ^ 16 → n < 10 ^ 16 → ovn_of m ≡ ovn_of n → m ≡ n }
+{}
+
+/// The index of a ticket stays within 64 bits, and so does the number of a landing.
+pub fn indexes_fit()
+    ensures tickets { (s : Service) → IsOrderly s → (t : Ticket) → Has s.tickets t → t.index + 1 < 2 ^ 64 }
+    ensures landings { (s : Service) → IsOrderly s → length s.landings + 1 < 2 ^ 64 }
+{}
+
+/// Each reply of an orderly service fits its call.
+pub fn replies_fit()
+    ensures { (s : Service) (client : List ℕ) (ask : DssAsk) → IsOrderly s → fits ask (service_step s client ask).0 ≡ true }
+{}
