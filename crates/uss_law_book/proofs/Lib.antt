@@ -1,0 +1,4 @@
+pub mod Finds
+pub mod Entries
+pub mod Greatest
+pub mod Kept

@@ -1,0 +1,28 @@
+-- What holds of every legal book.
+use Rattle.std.specs.Prelude.{◌≤◌, ◌≡◌, false, List, length}
+use Rattle.uss_event.specs.declared.entries.Entry.{Entry}
+use Rattle.uss_law_dss.specs.Lists.{Has}
+use Rattle.uss_law_book.specs.Lists.{Opening, Trial, Holding, Closing, openings, trials, holdings, endings}
+use Rattle.uss_law_book.specs.Readings.{is_closed, base_of}
+
+pub record IsOrderly (book : List Entry) : Type 0 where
+  -- jobs are numbered from 1 on, and a number is one job's
+  pub job_numbers : (o : Opening) → Has (openings book) o → o.job ≤ length (openings book)
+  pub jobs : (o p : Opening) → Has (openings book) o → Has (openings book) p → o.job ≡ p.job → o ≡ p
+  -- so are tags
+  pub tag_numbers : (t : Trial) → Has (trials book) t → t.tag ≤ length (trials book)
+  pub tags : (t u : Trial) → Has (trials book) t → Has (trials book) u → t.tag ≡ u.tag → t ≡ u
+  -- a request opens one job
+  pub requests : (o p : Opening) → Has (openings book) o → Has (openings book) p → o.ask.flight ≡ p.ask.flight → o.ask.number ≡ p.ask.number → o ≡ p
+  -- a flight has one open job
+  pub unclosed : (o p : Opening) → Has (openings book) o → Has (openings book) p → is_closed o.job book ≡ false → is_closed p.job book ≡ false → o.ask.flight ≡ p.ask.flight → o ≡ p
+  -- each attempt, and each record and end of a job, is of a job that was opened
+  pub tried : (t : Trial) → Has (trials book) t → (o : Opening) × Has (openings book) o × (o.job ≡ t.job)
+  pub recorded : (h : Holding) → Has (holdings book) h → (o : Opening) × Has (openings book) o × (o.job ≡ h.job)
+  pub ended : (d : Closing) → Has (endings book) d → (o : Opening) × Has (openings book) o × (o.job ≡ d.job)
+  -- what is recorded is an attempt of the job
+  pub own : (h : Holding) → Has (holdings book) h → (t : Trial) × Has (trials book) t × (t.job ≡ h.job) × (t.tag ≡ h.tag)
+  -- the attempts of a job change one reference
+  pub previous : (t u : Trial) → Has (trials book) t → Has (trials book) u → t.job ≡ u.job → t.previous ≡ u.previous
+  -- while the job is open, that is the one which is recorded of the flight
+  pub based : (t : Trial) (o : Opening) → Has (trials book) t → Has (openings book) o → o.job ≡ t.job → is_closed o.job book ≡ false → t.previous ≡ base_of o.ask.flight book
