@@ -2,3 +2,4 @@ pub mod Finds
 pub mod Entries
 pub mod Greatest
 pub mod Kept
+pub mod EachOrderly
