@@ -1,18 +1,24 @@
 -- Every legal book is orderly.
-use Rattle.std.proofs.Common.{ℕ, ◌≤◌, ◌<◌, ◌+◌, ◌==◌, Bool, true, false, ◌&&◌, List, [], ◌∷◌, ◌++◌, ◌≡◌, ◌⊎◌, inl, inr, length, refl, ap, sym, subst, ◌∙◌, arith, Option, Some, None}
+use Rattle.std.proofs.Common.{ℕ, ◌≤◌, ◌<◌, ◌+◌, ◌^◌, ◌==◌, Bool, true, false, ◌&&◌, List, [], ◌∷◌, ◌++◌, ◌≡◌, ◌⊎◌, inl, inr, length, refl, ap, sym, subst, ◌∙◌, arith, Option, Some, None}
 use Rattle.std.proofs.lemmas.List.{length-append, append-nil, append_assoc}
+use Rattle.uss_event.specs.declared.entries.Owner.{Owner}
 use Rattle.uss_event.specs.declared.entries.Entry.{Entry}
+use Rattle.uss_event.specs.declared.entries.Entry.TheVariants.{Pending}
+use Rattle.uss_event.specs.declared.entries.Entry.TheVariants as Enters
 use Rattle.uss_law_dss.specs.Lists.{Has}
 use Rattle.uss_law_dss.proofs.Lists.{list_any_has}
 use Rattle.uss_law_dss.proofs.Tests.{same_number, both, some_same}
-use Rattle.uss_law_book.specs.Lists.{Opening, Trial, Holding, Closing, openings, trials, holdings, endings}
-use Rattle.uss_law_book.specs.Readings.{opening_of, is_closed, owns, base_of}
-use Rattle.uss_law_book.specs.Legal.{IsDue, MayFollow, MayAllFollow, IsLegal}
+use Rattle.uss_law_book.specs.Lists.{owner_of, Opening, Trial, Holding, Closing, openings, trials, holdings, endings}
+use Rattle.uss_law_book.specs.Readings.{opening_of, trial_of, is_closed, owns, base_of}
+use Rattle.uss_law_book.specs.Attempts.{Attempted, attempt_of}
+use Rattle.uss_law_book.specs.Coding.{HasCoding}
+use Rattle.uss_law_book.specs.Legal.{is_owner, is_new, IsDue, MayFollow, MayAllFollow, IsLegal}
 use Rattle.uss_law_book.specs.Orderly.{IsOrderly}
 use Rattle.uss_law_book.proofs.Finds.{has_some}
-use Rattle.uss_law_book.proofs.Entries.{openings_append, trials_append, opening_stays, trial_stays, which_opening, which_trial, which_holding, which_ending, unclosed_before, opening_kept, NewOpening, NewTrial, new_opening, new_trial, new_holding, new_ending, one_opening, one_trial, not_both_new}
+use Rattle.uss_law_book.proofs.Entries.{openings_append, trials_append, opening_stays, trial_stays, which_opening, which_trial, which_holding, which_ending, unclosed_before, opening_kept, NewOpening, NewTrial, new_opening, new_trial, new_holding, new_ending, one_opening, one_trial, not_both_new, one_holding, one_ending, not_both_close, new_tag_fits}
 use Rattle.uss_law_book.proofs.Greatest.{number_is_greater, each_is_closed}
-use Rattle.uss_law_book.proofs.Kept.{opening_has, open_parts, base_kept}
+use Rattle.uss_law_book.proofs.Kept.{opening_has, open_parts, base_kept, held_closes, done_closes}
+use Rattle.uss_law_book.proofs.Attempts.{owner_kept, trial_found, trial_has, attempt_kept, new_attempt}
 
 -- how many there are after the new entry
 openings_grow : (book : List Entry) (e : Entry) → length (openings (book ++ e ∷ [])) ≡ length (openings book) + length (openings (e ∷ []))
@@ -191,11 +197,88 @@ based_after book e s d t o h k q u = elim (which_opening book (e ∷ []) o k) [
   | inr i ↦ based_new book e t o s d (which_trial book (e ∷ []) t h) i q
 ]
 
-pub orderly_after : (book : List Entry) (e : Entry) → IsOrderly book → IsDue book e → IsOrderly (book ++ e ∷ [])
-orderly_after book e s d =
+tags_begin_after : (book : List Entry) (e : Entry) → IsOrderly book → IsDue book e → (t : Trial) → Has (trials (book ++ e ∷ [])) t → 1 ≤ t.tag
+tags_begin_after book e s d t h = elim (which_trial book (e ∷ []) t h) [
+  | inl a ↦ s.tags_begin t a
+  | inr b ↦ (let n = (new_trial book e t d b).next in omega (arith, n))
+]
+
+tags_fit_after : (book : List Entry) (e : Entry) → IsOrderly book → HasCoding e → (t : Trial) → Has (trials (book ++ e ∷ [])) t → t.tag < 2 ^ 64
+tags_fit_after book e s c t h = elim (which_trial book (e ∷ []) t h) [ inl a ↦ s.tags_fit t a | inr b ↦ new_tag_fits e t c b ]
+
+owner_after : (book : List Entry) (e : Entry) → IsOrderly book → is_owner e ≡ is_new book → (o : Owner) × (owner_of (book ++ e ∷ []) ≡ Some o)
+owner_after [] (Enters.Owner owner) s f = (owner, refl)
+owner_after [] _ s f = cc
+owner_after (x ∷ xs) e s f = let w = s.owner refl in (w.0, owner_kept (x ∷ xs) (e ∷ []) w.0 w.1)
+
+-- a job that the new entry closes wasn't closed before
+reclosed : (book : List Entry) (job other : ℕ) → (is_closed job book ≡ false → ⊥) → is_closed other book ≡ false → job ≡ other → ⊥
+reclosed book job other n u q = n (subst (λ j. is_closed j book ≡ false) (sym q) u)
+
+held_once_after : (book : List Entry) (e : Entry) → IsOrderly book → IsDue book e → (x y : Holding) → Has (holdings (book ++ e ∷ [])) x → Has (holdings (book ++ e ∷ [])) y → x.job ≡ y.job → x ≡ y
+held_once_after book e s d x y h k q = elim (which_holding book (e ∷ []) x h) [
+  | inl a ↦ elim (which_holding book (e ∷ []) y k) [
+    | inl b ↦ s.held_once x y a b q
+    | inr b ↦ absurd (reclosed book x.job y.job (held_closes book x a) (open_parts book y.job (new_holding book e y d b).unfinished).2 q)
+  ]
+  | inr a ↦ elim (which_holding book (e ∷ []) y k) [
+    | inl b ↦ absurd (reclosed book y.job x.job (held_closes book y b) (open_parts book x.job (new_holding book e x d a).unfinished).2 (sym q))
+    | inr b ↦ one_holding e x y a b
+  ]
+]
+
+ended_once_after : (book : List Entry) (e : Entry) → IsOrderly book → IsDue book e → (x y : Closing) → Has (endings (book ++ e ∷ [])) x → Has (endings (book ++ e ∷ [])) y → x.job ≡ y.job → x ≡ y
+ended_once_after book e s d x y h k q = elim (which_ending book (e ∷ []) x h) [
+  | inl a ↦ elim (which_ending book (e ∷ []) y k) [
+    | inl b ↦ s.ended_once x y a b q
+    | inr b ↦ absurd (reclosed book x.job y.job (done_closes book x a) (new_ending book e y d b).unclosed q)
+  ]
+  | inr a ↦ elim (which_ending book (e ∷ []) y k) [
+    | inl b ↦ absurd (reclosed book y.job x.job (done_closes book y b) (new_ending book e x d a).unclosed (sym q))
+    | inr b ↦ one_ending e x y a b
+  ]
+]
+
+held_or_ended_after : (book : List Entry) (e : Entry) → IsOrderly book → IsDue book e → (x : Holding) (y : Closing) → Has (holdings (book ++ e ∷ [])) x → Has (endings (book ++ e ∷ [])) y
+    → x.job ≡ y.job → ⊥
+held_or_ended_after book e s d x y h k q = elim (which_holding book (e ∷ []) x h) [
+  | inl a ↦ elim (which_ending book (e ∷ []) y k) [
+    | inl b ↦ s.held_or_ended x y a b q
+    | inr b ↦ reclosed book x.job y.job (held_closes book x a) (new_ending book e y d b).unclosed q
+  ]
+  | inr a ↦ elim (which_ending book (e ∷ []) y k) [
+    | inl b ↦ reclosed book y.job x.job (done_closes book y b) (open_parts book x.job (new_holding book e x d a).unfinished).2 (sym q)
+    | inr b ↦ not_both_close e x y a b
+  ]
+]
+
+-- a new attempt is found by its tag
+found_by_tag : (book : List Entry) (e : Entry) → IsOrderly book → IsDue book e → (t : Trial) → Has (trials (book ++ e ∷ [])) t → trial_of t.tag (book ++ e ∷ []) ≡ Some t
+found_by_tag book e s d t h =
+    let f = trial_found (book ++ e ∷ []) t.tag t h refl in
+    let g = trial_has (book ++ e ∷ []) t.tag f.0 f.1 in
+    f.1 ∙ ap Some (tags_after book e s d f.0 t g.0 h g.1)
+
+owner_before : (book : List Entry) (e : Entry) (t : Trial) → IsOrderly book → is_owner e ≡ is_new book → Has (trials (e ∷ [])) t → (o : Owner) × (owner_of book ≡ Some o)
+owner_before book (Pending job tag alternative previous key) t s f h = s.owner (sym f)
+owner_before book _ t s f h = absurd h
+
+attempted_after : (book : List Entry) (e : Entry) → IsOrderly book → IsDue book e → is_owner e ≡ is_new book → (t : Trial) → Has (trials (book ++ e ∷ [])) t
+    → (a : Attempted) × (attempt_of t.tag (book ++ e ∷ []) ≡ Some a)
+attempted_after book e s d f t h = elim (which_trial book (e ∷ []) t h) [
+  | inl a ↦ (let w = s.attempted t a in (w.0, attempt_kept book (e ∷ []) t.tag w.0 w.1))
+  | inr b ↦ (let w = owner_before book e t s f b in new_attempt book e t w.0 w.1 (new_trial book e t d b) (found_by_tag book e s d t h))
+]
+
+pub orderly_after : (book : List Entry) (e : Entry) → IsOrderly book → MayFollow book e → IsOrderly (book ++ e ∷ [])
+orderly_after book e s m =
+    let d = m.due in
     record {
       job_numbers = job_numbers_after book e s d;
       jobs = jobs_after book e s d;
+      owner = λ n. owner_after book e s m.first;
+      tags_begin = tags_begin_after book e s d;
+      tags_fit = tags_fit_after book e s m.coding;
       tag_numbers = tag_numbers_after book e s d;
       tags = tags_after book e s d;
       requests = requests_after book e s d;
@@ -206,6 +289,10 @@ orderly_after book e s d =
       own = own_after book e s d;
       previous = previous_after book e s d;
       based = based_after book e s d;
+      held_once = held_once_after book e s d;
+      ended_once = ended_once_after book e s d;
+      held_or_ended = held_or_ended_after book e s d;
+      attempted = attempted_after book e s d m.first;
     }
 
 pub orderly_at_first : IsOrderly []
@@ -213,6 +300,9 @@ orderly_at_first =
     record {
       job_numbers = λ o h. absurd h;
       jobs = λ o p h k q. absurd h;
+      owner = λ n. cc;
+      tags_begin = λ t h. absurd h;
+      tags_fit = λ t h. absurd h;
       tag_numbers = λ t h. absurd h;
       tags = λ t u h k q. absurd h;
       requests = λ o p h k f q. absurd h;
@@ -223,12 +313,16 @@ orderly_at_first =
       own = λ x h. absurd h;
       previous = λ t u h k q. absurd h;
       based = λ t o h k q u. absurd h;
+      held_once = λ x y h k q. absurd h;
+      ended_once = λ x y h k q. absurd h;
+      held_or_ended = λ x y h k q. absurd h;
+      attempted = λ t h. absurd h;
     }
 
 pub orderly_from : (before es : List Entry) → IsOrderly before → MayAllFollow before es → IsOrderly (before ++ es)
 orderly_from before [] s h = subst IsOrderly (sym (append-nil before)) s
 orderly_from before (e ∷ es) s h =
-    subst IsOrderly (append_assoc before (e ∷ []) es) (orderly_from (before ++ e ∷ []) es (orderly_after before e s h.0.due) h.1)
+    subst IsOrderly (append_assoc before (e ∷ []) es) (orderly_from (before ++ e ∷ []) es (orderly_after before e s h.0) h.1)
 
 pub legal_is_orderly : (book : List Entry) → IsLegal book → IsOrderly book
 legal_is_orderly book h = orderly_from [] book orderly_at_first h

@@ -1,7 +1,10 @@
 -- What a further entry adds to what a book says.
-use Rattle.std.proofs.Common.{ℕ, ◌≤◌, ◌<◌, ◌+◌, ◌==◌, Bool, true, false, ◌||◌, ◌&&◌, List, [], ◌∷◌, ◌++◌, ◌≡◌, ◌⊎◌, inl, inr, length, refl, ap, sym, subst, ◌∙◌, arith, Option, Some, None, IfSome}
+use Rattle.std.proofs.Common.{ℕ, ◌≤◌, ◌<◌, ◌+◌, ◌^◌, ◌==◌, Bool, true, false, ◌||◌, ◌&&◌, List, [], ◌∷◌, ◌++◌, ◌≡◌, ◌⊎◌, inl, inr, length, refl, ap, sym, subst, ◌∙◌, arith, Option, Some, None, IfSome}
 use Rattle.std.specs.List.{list_any, find}
 use Rattle.std.proofs.lemmas.List.Folds.{list_any-append}
+use Rattle.uss_intent.specs.declared.records.State.{State}
+use Rattle.uss_event.specs.declared.details.Proposal.{Proposal}
+use Rattle.uss_event.specs.declared.asks.Wish.TheVariants.{Put}
 use Rattle.uss_event.specs.declared.entries.Entry.{Entry}
 use Rattle.uss_event.specs.declared.entries.Entry.TheVariants.{Opened, TicketOpen, Pending, Held, Deciding, Done, TicketGone, Sent}
 use Rattle.uss_law_dss.specs.Lists.{Has}
@@ -9,6 +12,7 @@ use Rattle.uss_law_dss.proofs.Lists.{has_append, has_left}
 use Rattle.uss_law_dss.proofs.Tests.{neither, left_false, equal_number}
 use Rattle.uss_law_book.specs.Lists.{Opening, Trial, Holding, Closing, openings, trials, holdings, endings}
 use Rattle.uss_law_book.specs.Readings.{opening_of, is_held, is_done, is_closed, is_open, owns, open_job_of, last_of, base_of}
+use Rattle.uss_law_book.specs.Coding.{HasCoding}
 use Rattle.uss_law_book.specs.Legal.{IsDue, IsAfter}
 use Rattle.uss_law_book.proofs.Finds.{find_found, find_kept, halves}
 
@@ -87,6 +91,12 @@ pub record NewTrial (book : List Entry) (t : Trial) : Type 0 where
   pub unclosed : is_closed t.job book ≡ false
   pub next : t.tag ≡ length (trials book) + 1
   pub base : t.previous ≡ base_of opening.ask.flight book
+  pub to : State
+  pub priority : ℕ
+  pub rounds : ℕ
+  pub proposals : List Proposal
+  pub put : opening.ask.wish ≡ Put to priority rounds proposals
+  pub one_of : t.alternative < length proposals
 
 pub record NewHolding (book : List Entry) (h : Holding) : Type 0 where
   pub unfinished : is_open h.job book ≡ true
@@ -104,7 +114,19 @@ new_opening book _ o d h = absurd h
 
 pub new_trial : (book : List Entry) (e : Entry) (t : Trial) → IsDue book e → Has (trials (e ∷ [])) t → NewTrial book t
 new_trial book (Pending job tag alternative previous key) t d (inl q) =
-    subst (NewTrial book) q (record { opening = d.opening; opened = d.unfinished.opened; unclosed = d.unfinished.unclosed; next = d.next; base = d.base })
+    subst (NewTrial book) q (record {
+      opening = d.opening;
+      opened = d.unfinished.opened;
+      unclosed = d.unfinished.unclosed;
+      next = d.next;
+      base = d.base;
+      to = d.to;
+      priority = d.priority;
+      rounds = d.rounds;
+      proposals = d.proposals;
+      put = d.unfinished.put;
+      one_of = d.one_of;
+    })
 new_trial book (Pending job tag alternative previous key) t d (inr n) = absurd n
 new_trial book _ t d h = absurd h
 
@@ -134,3 +156,25 @@ one_trial _ t u h k = absurd h
 pub not_both_new : (e : Entry) (o : Opening) (t : Trial) → Has (openings (e ∷ [])) o → Has (trials (e ∷ [])) t → ⊥
 not_both_new (Opened job moment ask) o t h k = absurd k
 not_both_new _ o t h k = absurd h
+
+pub one_holding : (e : Entry) (h k : Holding) → Has (holdings (e ∷ [])) h → Has (holdings (e ∷ [])) k → h ≡ k
+one_holding (Held job tag ovn version owed) h k (inl q) (inl r) = sym q ∙ r
+one_holding (Held job tag ovn version owed) h k (inl q) (inr n) = absurd n
+one_holding (Held job tag ovn version owed) h k (inr n) m = absurd n
+one_holding _ h k m n = absurd m
+
+pub one_ending : (e : Entry) (d c : Closing) → Has (endings (e ∷ [])) d → Has (endings (e ∷ [])) c → d ≡ c
+one_ending (Done job end) d c (inl q) (inl r) = sym q ∙ r
+one_ending (Done job end) d c (inl q) (inr n) = absurd n
+one_ending (Done job end) d c (inr n) m = absurd n
+one_ending _ d c m n = absurd m
+
+pub not_both_close : (e : Entry) (h : Holding) (d : Closing) → Has (holdings (e ∷ [])) h → Has (endings (e ∷ [])) d → ⊥
+not_both_close (Held job tag ovn version owed) h d m n = absurd n
+not_both_close _ h d m n = absurd m
+
+-- the tag of a new attempt fits
+pub new_tag_fits : (e : Entry) (t : Trial) → HasCoding e → Has (trials (e ∷ [])) t → t.tag < 2 ^ 64
+new_tag_fits (Pending job tag alternative previous key) t c (inl q) = subst (λ (x : Trial). x.tag < 2 ^ 64) q c.tag_fits
+new_tag_fits (Pending job tag alternative previous key) t c (inr n) = absurd n
+new_tag_fits _ t c h = absurd h

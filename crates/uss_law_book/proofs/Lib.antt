@@ -2,4 +2,5 @@ pub mod Finds
 pub mod Entries
 pub mod Greatest
 pub mod Kept
+pub mod Attempts
 pub mod EachOrderly
