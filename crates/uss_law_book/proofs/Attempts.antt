@@ -1,16 +1,12 @@
 -- The attempts of a book stay what they are, and each of a legal book is one of its job's alternatives.
-use Rattle.std.proofs.Common.{ℕ, ◌≤◌, ◌<◌, ◌+◌, ◌==◌, Bool, true, false, List, [], ◌∷◌, ◌++◌, ◌≡◌, ◌⊎◌, inl, inr, length, refl, ap, sym, subst, ◌∙◌, arith, Option, Some, None, slice_get, zero, suc}
-use Rattle.std.specs.List.{find}
-use Rattle.std.specs.Option.{option_map}
-use Rattle.uss_event.specs.declared.asks.Wish.{Wish}
-use Rattle.uss_event.specs.declared.asks.Wish.TheVariants.{Put, End}
+use Rattle.std.proofs.Common.{ℕ, ◌<◌, ◌==◌, List, [], ◌∷◌, ◌++◌, ◌≡◌, length, refl, arith, Option, Some, None, slice_get, zero, suc}
 use Rattle.uss_event.specs.declared.entries.Owner.{Owner}
 use Rattle.uss_event.specs.declared.entries.Entry.{Entry}
 use Rattle.uss_event.specs.declared.entries.Entry.TheVariants as Enters
 use Rattle.uss_law_dss.specs.Lists.{Has}
 use Rattle.uss_law_dss.proofs.Lists.{find_has}
-use Rattle.uss_law_dss.proofs.Tests.{same_number, equal_number, some_same}
-use Rattle.uss_law_book.specs.Lists.{owner_of, Opening, Trial, openings, trials}
+use Rattle.uss_law_dss.proofs.Tests.{same_number, equal_number}
+use Rattle.uss_law_book.specs.Lists.{owner_of, Opening, Trial, trials}
 use Rattle.uss_law_book.specs.Readings.{opening_of, trial_of}
 use Rattle.uss_law_book.specs.Attempts.{Attempted, attempt_of, by_trial, by_opening, by_wish, attempted}
 use Rattle.uss_law_book.proofs.Finds.{find_found, find_kept}
@@ -84,13 +80,15 @@ pub new_attempt : (book : List Entry) (e : Entry) (t : Trial) (o : Owner) → ow
 new_attempt book e t o w n f =
     let p = item_at n.proposals t.alternative n.one_of in
     let a = attempted o n.opening t n.to n.priority p.0 in
-    let is : by_wish o n.opening t n.opening.ask.wish ≡ Some a = rw (n.put, p.1) refl in
-    (a, from_parts t.tag (book ++ e ∷ []) a (record {
-      owner = o;
-      trial = t;
-      opening = n.opening;
-      has_owner = owner_kept book (e ∷ []) o w;
-      has_trial = f;
-      has_opening = opening_kept book (e ∷ []) t.job n.opening n.opened;
-      is = is;
-    }))
+    let is : by_wish o n.opening t n.opening.ask.wish ≡ Some a = rw (n.put, p.1) refl in (
+      a,
+      from_parts t.tag (book ++ e ∷ []) a (record {
+        owner = o;
+        trial = t;
+        opening = n.opening;
+        has_owner = owner_kept book (e ∷ []) o w;
+        has_trial = f;
+        has_opening = opening_kept book (e ∷ []) t.job n.opening n.opened;
+        is = is;
+      }),
+    )

@@ -1,5 +1,5 @@
 -- Every legal book is orderly.
-use Rattle.std.proofs.Common.{ℕ, ◌≤◌, ◌<◌, ◌+◌, ◌^◌, ◌==◌, Bool, true, false, ◌&&◌, List, [], ◌∷◌, ◌++◌, ◌≡◌, ◌⊎◌, inl, inr, length, refl, ap, sym, subst, ◌∙◌, arith, Option, Some, None}
+use Rattle.std.proofs.Common.{ℕ, ◌≤◌, ◌<◌, ◌+◌, ◌^◌, ◌==◌, true, false, ◌&&◌, List, [], ◌∷◌, ◌++◌, ◌≡◌, ◌⊎◌, inl, inr, length, refl, ap, sym, subst, ◌∙◌, arith, Some}
 use Rattle.std.proofs.lemmas.List.{length-append, append-nil, append_assoc}
 use Rattle.uss_event.specs.declared.entries.Owner.{Owner}
 use Rattle.uss_event.specs.declared.entries.Entry.{Entry}
@@ -7,7 +7,7 @@ use Rattle.uss_event.specs.declared.entries.Entry.TheVariants.{Pending}
 use Rattle.uss_event.specs.declared.entries.Entry.TheVariants as Enters
 use Rattle.uss_law_dss.specs.Lists.{Has}
 use Rattle.uss_law_dss.proofs.Lists.{list_any_has}
-use Rattle.uss_law_dss.proofs.Tests.{same_number, both, some_same}
+use Rattle.uss_law_dss.proofs.Tests.{same_number, both}
 use Rattle.uss_law_book.specs.Lists.{owner_of, Opening, Trial, Holding, Closing, openings, trials, holdings, endings}
 use Rattle.uss_law_book.specs.Readings.{opening_of, trial_of, is_closed, owns, base_of}
 use Rattle.uss_law_book.specs.Attempts.{Attempted, attempt_of}
@@ -15,7 +15,7 @@ use Rattle.uss_law_book.specs.Coding.{HasCoding}
 use Rattle.uss_law_book.specs.Legal.{is_owner, is_new, IsDue, MayFollow, MayAllFollow, IsLegal}
 use Rattle.uss_law_book.specs.Orderly.{IsOrderly}
 use Rattle.uss_law_book.proofs.Finds.{has_some}
-use Rattle.uss_law_book.proofs.Entries.{openings_append, trials_append, opening_stays, trial_stays, which_opening, which_trial, which_holding, which_ending, unclosed_before, opening_kept, NewOpening, NewTrial, new_opening, new_trial, new_holding, new_ending, one_opening, one_trial, not_both_new, one_holding, one_ending, not_both_close, new_tag_fits}
+use Rattle.uss_law_book.proofs.Entries.{openings_append, trials_append, opening_stays, trial_stays, which_opening, which_trial, which_holding, which_ending, unclosed_before, NewOpening, NewTrial, new_opening, new_trial, new_holding, new_ending, one_opening, one_trial, not_both_new, one_holding, one_ending, not_both_close, new_tag_fits}
 use Rattle.uss_law_book.proofs.Greatest.{number_is_greater, each_is_closed}
 use Rattle.uss_law_book.proofs.Kept.{opening_has, open_parts, base_kept, held_closes, done_closes}
 use Rattle.uss_law_book.proofs.Attempts.{owner_kept, trial_found, trial_has, attempt_kept, new_attempt}

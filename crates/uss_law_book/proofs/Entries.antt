@@ -1,15 +1,15 @@
 -- What a further entry adds to what a book says.
-use Rattle.std.proofs.Common.{ℕ, ◌≤◌, ◌<◌, ◌+◌, ◌^◌, ◌==◌, Bool, true, false, ◌||◌, ◌&&◌, List, [], ◌∷◌, ◌++◌, ◌≡◌, ◌⊎◌, inl, inr, length, refl, ap, sym, subst, ◌∙◌, arith, Option, Some, None, IfSome}
-use Rattle.std.specs.List.{list_any, find}
+use Rattle.std.proofs.Common.{ℕ, ◌<◌, ◌+◌, ◌^◌, ◌==◌, true, false, ◌||◌, List, [], ◌∷◌, ◌++◌, ◌≡◌, ◌⊎◌, inl, inr, length, refl, ap, sym, subst, ◌∙◌, Some, None, IfSome}
+use Rattle.std.specs.List.{list_any}
 use Rattle.std.proofs.lemmas.List.Folds.{list_any-append}
 use Rattle.uss_intent.specs.declared.records.State.{State}
 use Rattle.uss_event.specs.declared.details.Proposal.{Proposal}
 use Rattle.uss_event.specs.declared.asks.Wish.TheVariants.{Put}
 use Rattle.uss_event.specs.declared.entries.Entry.{Entry}
-use Rattle.uss_event.specs.declared.entries.Entry.TheVariants.{Opened, TicketOpen, Pending, Held, Deciding, Done, TicketGone, Sent}
+use Rattle.uss_event.specs.declared.entries.Entry.TheVariants.{Opened, Pending, Held, Done}
 use Rattle.uss_law_dss.specs.Lists.{Has}
 use Rattle.uss_law_dss.proofs.Lists.{has_append, has_left}
-use Rattle.uss_law_dss.proofs.Tests.{neither, left_false, equal_number}
+use Rattle.uss_law_dss.proofs.Tests.{neither, equal_number}
 use Rattle.uss_law_book.specs.Lists.{Opening, Trial, Holding, Closing, openings, trials, holdings, endings}
 use Rattle.uss_law_book.specs.Readings.{opening_of, is_held, is_done, is_closed, is_open, owns, open_job_of, last_of, base_of}
 use Rattle.uss_law_book.specs.Coding.{HasCoding}

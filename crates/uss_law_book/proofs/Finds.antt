@@ -1,5 +1,5 @@
 -- What filters and look-ups find.
-use Rattle.std.proofs.Common.{ℕ, ◌≤◌, ◌+◌, Bool, true, false, cond, ◌||◌, ◌&&◌, List, [], ◌∷◌, ◌++◌, ◌≡◌, ◌⊎◌, inl, inr, filter, length, refl, ap, sym, subst, ◌∙◌, arith, Option, Some, None, suc}
+use Rattle.std.proofs.Common.{◌≤◌, Bool, true, false, cond, ◌||◌, ◌&&◌, List, [], ◌∷◌, ◌++◌, ◌≡◌, ◌⊎◌, inl, inr, filter, length, refl, ap, sym, ◌∙◌, arith, Some}
 use Rattle.std.specs.List.{list_any, find}
 use Rattle.std.specs.Option.{option_or}
 use Rattle.std.proofs.lemmas.List.Folds.{find-append}

@@ -1,6 +1,5 @@
 -- The flight's last request has the greatest number, and the flight's open job is found.
-use Rattle.std.proofs.Common.{ℕ, ◌≤◌, ◌<◌, ◌==◌, Bool, true, false, not, cond, nat_lt, List, [], ◌∷◌, ◌≡◌, ◌⊎◌, inl, inr, refl, ap, sym, subst, ◌∙◌, arith, Option, Some, None, IfSome, filter}
-use Rattle.std.specs.List.{find}
+use Rattle.std.proofs.Common.{ℕ, ◌≤◌, ◌<◌, ◌==◌, Bool, true, false, not, cond, nat_lt, List, [], ◌∷◌, ◌≡◌, inl, inr, refl, sym, subst, arith, Option, Some, None, IfSome}
 use Rattle.uss_event.specs.declared.asks.FlightAsk.{FlightAsk}
 use Rattle.uss_event.specs.declared.entries.Entry.{Entry}
 use Rattle.uss_law_dss.specs.Lists.{Has}
@@ -43,7 +42,7 @@ at_least [] o h = absurd h
 at_least (p ∷ os) o (inl q) = subst (λ (x : Opening). IsAtLeast x (greater p (greatest os))) q (greater_first p (greatest os))
 at_least (p ∷ os) o (inr h) = greater_rest o p (greatest os) (at_least os o h)
 
-in_jobs : (book : List Entry) (o : Opening) (flight : ℕ) → Has (openings book) o → o.ask.flight ≡ flight → Has (jobs_of flight book) o
+pub in_jobs : (book : List Entry) (o : Opening) (flight : ℕ) → Has (openings book) o → o.ask.flight ≡ flight → Has (jobs_of flight book) o
 unfolding jobs_of
 in_jobs book o flight h e = has_filtered (λ (p : Opening). p.ask.flight == flight) (openings book) o h (equal_number o.ask.flight flight e)
 

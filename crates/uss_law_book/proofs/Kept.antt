@@ -1,6 +1,6 @@
 -- What is recorded of a flight stays as it is while the flight has an open job.
-use Rattle.std.proofs.Common.{ℕ, ◌≤◌, ◌<◌, ◌+◌, ◌==◌, Bool, true, false, ◌||◌, ◌&&◌, List, [], ◌∷◌, ◌++◌, ◌≡◌, ◌⊎◌, inl, inr, length, filter, refl, ap, sym, subst, ◌∙◌, arith, Option, Some, None, is_some, cond, if◌then◌else◌}
-use Rattle.std.specs.List.{list_any, last_or, find}
+use Rattle.std.proofs.Common.{ℕ, ◌==◌, Bool, true, false, ◌||◌, ◌&&◌, List, [], ◌∷◌, ◌++◌, ◌≡◌, filter, refl, ap, sym, subst, ◌∙◌, Option, Some, None, is_some}
+use Rattle.std.specs.List.{list_any}
 use Rattle.std.specs.Option.{option_map}
 use Rattle.std.proofs.lemmas.List.{append-nil}
 use Rattle.std.proofs.lemmas.List.Folds.{list_any-append}
@@ -8,13 +8,13 @@ use Rattle.std.proofs.lemmas.List.Elements.{filter-append}
 use Rattle.uss_event.specs.declared.entries.Entry.{Entry}
 use Rattle.uss_law_dss.specs.Lists.{Has}
 use Rattle.uss_law_dss.proofs.Lists.{find_has, any_true, none_passes}
-use Rattle.uss_law_dss.proofs.Tests.{same_number, equal_number, neither, both, not_true, some_is, some_same}
-use Rattle.uss_law_book.specs.Lists.{Opening, Trial, Holding, Closing, openings, trials, holdings, endings}
-use Rattle.uss_law_book.specs.Readings.{opening_of, is_held, is_done, is_closed, is_open, is_for, is_job_of, is_ended, has_ended, holdings_of, last_holding, holding, base_of}
+use Rattle.uss_law_dss.proofs.Tests.{same_number, equal_number, neither, both, not_true}
+use Rattle.uss_law_book.specs.Lists.{Opening, Holding, Closing, openings, holdings, endings}
+use Rattle.uss_law_book.specs.Readings.{opening_of, is_held, is_done, is_closed, is_open, is_job_of, is_ended, has_ended, holdings_of, holding, base_of}
 use Rattle.uss_law_book.specs.Legal.{IsDue}
 use Rattle.uss_law_book.specs.Orderly.{IsOrderly}
 use Rattle.uss_law_book.proofs.Finds.{any_agrees, filter_agrees, none_filtered, first_false}
-use Rattle.uss_law_book.proofs.Entries.{holdings_append, endings_append, opening_found, opening_kept, unclosed_by, unclosed_before, new_holding, new_ending, NewHolding, NewEnding}
+use Rattle.uss_law_book.proofs.Entries.{holdings_append, endings_append, opening_found, opening_kept, unclosed_by, unclosed_before, new_holding, new_ending}
 
 -- the opening that is found is there, and is the job's
 pub opening_has : (book : List Entry) (job : ℕ) (o : Opening) → opening_of job book ≡ Some o → Has (openings book) o × (o.job ≡ job)

@@ -4,3 +4,4 @@ pub mod Greatest
 pub mod Kept
 pub mod Attempts
 pub mod EachOrderly
+pub mod Held

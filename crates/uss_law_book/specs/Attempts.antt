@@ -1,13 +1,12 @@
 -- What an attempt of a book would record, the call that records it, and what a book holds of a flight.
 -- The identifiers and the attempt's base URL are this project's own.
-use Rattle.std.specs.Prelude.{ℕ, ℤ, List, [], ◌∷◌, ◌++◌, slice_get, Option, Some, None}
+use Rattle.std.specs.Prelude.{ℕ, List, ◌++◌, slice_get, Option, Some, None}
 use Rattle.std.specs.Option.{option_map}
 use Rattle.uss_vol4.specs.Volume.{Volume4D}
 use Rattle.uss_vol4.specs.Bounding.{bounding_box}
 use Rattle.uss_intent.specs.Identifiers.{flight_number, ticket_number}
 use Rattle.uss_intent.specs.Texts.{tagged_base}
 use Rattle.uss_intent.specs.declared.records.State.{State}
-use Rattle.uss_intent.specs.declared.records.Reference.{Reference}
 use Rattle.uss_intent.specs.declared.calls.DssAsk.{DssAsk}
 use Rattle.uss_intent.specs.declared.calls.DssAsk.TheVariants as Asks
 use Rattle.uss_event.specs.declared.asks.Wish.{Wish}

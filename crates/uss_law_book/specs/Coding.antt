@@ -2,7 +2,7 @@
 -- fields: a number with as many bytes as its type; an identifier with 16; a text as its length in 4 bytes and its bytes; an option as a
 -- byte, 0, or 1 and the value; a list as its length in 4 bytes and its items, but the alternatives of a wish and their volumes
 -- with their number in one byte, and a table of rules with 2 bytes for each priority. All of this is this project's own.
-use Rattle.std.specs.Prelude.{ℕ, ◌+◌, ◌*◌, ◌^◌, ◌<◌, ◌≤◌, List, ◌++◌, length, sum_by, All, Option, Some, None, IfSome}
+use Rattle.std.specs.Prelude.{ℕ, ◌+◌, ◌*◌, ◌^◌, ◌<◌, ◌≤◌, List, length, sum_by, All, Option, Some, None, IfSome}
 use Rattle.uss_vol4.specs.Volume.{Volume4D, IsVolume, InTime}
 use Rattle.uss_intent.specs.Texts.{IsName, IsOvn, IsBase}
 use Rattle.uss_intent.specs.declared.records.Subscriber.{Subscriber}

@@ -1,7 +1,6 @@
 -- What a legal book is, entry by entry. This project's own.
-use Rattle.std.specs.Prelude.{ℕ, ◌+◌, ◌<◌, ◌≤◌, ◌≡◌, ◌⊎◌, Bool, true, false, ◌&&◌, List, [], ◌∷◌, ◌++◌, length, Option, Some, None, IfSome, All, IsTrue, is_some}
+use Rattle.std.specs.Prelude.{ℕ, ◌+◌, ◌<◌, ◌≤◌, ◌≡◌, ◌⊎◌, Bool, true, false, List, [], ◌∷◌, ◌++◌, length, Option, Some, None, IfSome, All, IsTrue, is_some}
 use Rattle.uss_intent.specs.declared.records.State.{State}
-use Rattle.uss_intent.specs.declared.records.Subscriber.{Subscriber}
 use Rattle.uss_event.specs.Plans.{is_plan}
 use Rattle.uss_event.specs.Transitions.{may_go}
 use Rattle.uss_event.specs.declared.details.Proposal.{Proposal}
@@ -14,7 +13,7 @@ use Rattle.uss_event.specs.declared.entries.Entry.{Entry}
 use Rattle.uss_event.specs.declared.entries.Entry.TheVariants.{Opened, TicketOpen, Pending, Held, Deciding, Done, TicketGone, Sent}
 use Rattle.uss_event.specs.declared.entries.Entry.TheVariants as Enters
 use Rattle.uss_law_dss.specs.Service.{is_keyed}
-use Rattle.uss_law_book.specs.Lists.{Opening, Trial, Closing, openings, trials}
+use Rattle.uss_law_book.specs.Lists.{Opening, openings, trials}
 use Rattle.uss_law_book.specs.Readings.{opening_of, is_closed, is_open, open_job_of, last_of, has_ended, trials_of, owns, decision_of, base_of, is_put_job, is_ticket_open, is_ticket_gone, is_ticket_needed, owed_of, is_told}
 use Rattle.uss_law_book.specs.Attempts.{held_state}
 use Rattle.uss_law_book.specs.Coding.{HasCoding}

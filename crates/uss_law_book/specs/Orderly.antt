@@ -1,11 +1,11 @@
 -- What holds of every legal book.
-use Rattle.std.specs.Prelude.{◌≤◌, ◌<◌, ◌^◌, ◌≡◌, false, List, length, Some}
+use Rattle.std.specs.Prelude.{ℕ, ◌≤◌, ◌<◌, ◌^◌, ◌≡◌, false, List, length, Some}
 use Rattle.uss_event.specs.declared.entries.Owner.{Owner}
 use Rattle.uss_event.specs.declared.entries.Entry.{Entry}
 use Rattle.uss_law_dss.specs.Lists.{Has}
 use Rattle.uss_law_book.specs.Lists.{owner_of, Opening, Trial, Holding, Closing, openings, trials, holdings, endings}
-use Rattle.uss_law_book.specs.Readings.{is_closed, base_of}
-use Rattle.uss_law_book.specs.Attempts.{Attempted, attempt_of}
+use Rattle.uss_law_book.specs.Readings.{opening_of, is_closed, base_of}
+use Rattle.uss_law_book.specs.Attempts.{Attempted, attempt_of, recorded_as, held}
 use Rattle.uss_law_book.specs.Legal.{is_new}
 
 pub record IsOrderly (book : List Entry) : Type 0 where
@@ -39,3 +39,17 @@ pub record IsOrderly (book : List Entry) : Type 0 where
   pub held_or_ended : (h : Holding) (d : Closing) → Has (holdings book) h → Has (endings book) d → h.job ≡ d.job → ⊥
   -- each attempt is of one of its job's alternatives
   pub attempted : (t : Trial) → Has (trials book) t → (a : Attempted) × (attempt_of t.tag book ≡ Some a)
+
+-- what is held of a flight is what a job of the flight recorded: one of the job's attempts, with the OVN and the version that its entry has
+pub record IsHeldOf (book : List Entry) (flight : ℕ) (h : Holding) : Type 0 where
+  pub opening : Opening
+  pub trial : Trial
+  pub attempt : Attempted
+  pub entered : Has (holdings book) h
+  pub opened : opening_of h.job book ≡ Some opening
+  pub flight_is : opening.ask.flight ≡ flight
+  pub tried : Has (trials book) trial
+  pub job : trial.job ≡ h.job
+  pub tag : trial.tag ≡ h.tag
+  pub found : attempt_of h.tag book ≡ Some attempt
+  pub is : held flight book ≡ Some (recorded_as attempt h.ovn h.version)

@@ -1,6 +1,6 @@
 -- What a book tells: of jobs, of flights, of tickets and of notifications. Each is a filter or a look-up in the list of its entries.
 -- A ticket is a subscription (ASTM F3548-21) that belongs to one job. This project's own.
-use Rattle.std.specs.Prelude.{ℕ, Bool, true, false, not, ◌&&◌, ◌||◌, ◌==◌, nat_lt, List, [], ◌∷◌, ◌++◌, length, filter, find, Option, Some, None, is_some, if◌then◌else◌}
+use Rattle.std.specs.Prelude.{ℕ, Bool, true, false, not, ◌&&◌, ◌||◌, ◌==◌, nat_lt, List, [], ◌∷◌, length, filter, find, Option, Some, None, is_some, if◌then◌else◌}
 use Rattle.std.specs.List.{list_any, last_or, range_with_len}
 use Rattle.std.specs.Option.{option_map}
 use Rattle.uss_intent.specs.declared.records.Subscriber.{Subscriber}
@@ -9,7 +9,7 @@ use Rattle.uss_event.specs.declared.asks.Wish.TheVariants.{Put, End}
 use Rattle.uss_event.specs.declared.entries.Entry.{Entry}
 use Rattle.uss_event.specs.declared.entries.Ending.{Ending}
 use Rattle.uss_event.specs.declared.entries.Ending.TheVariants.{Conflict, Stale, Cancelled, Ended}
-use Rattle.uss_law_book.specs.Lists.{Opening, Trial, Holding, Closing, Told, openings, tickets_opened, trials, holdings, decisions, endings, tickets_gone, told}
+use Rattle.uss_law_book.specs.Lists.{Opening, Trial, Holding, Closing, openings, tickets_opened, trials, holdings, decisions, endings, tickets_gone, told}
 
 -- the number is one of the list
 abbrev pub is_one_of : ℕ → List ℕ → Bool

@@ -1,9 +1,9 @@
 -- The room that a book keeps free in its journal, so that what is open can always be brought to an end. This project's own.
-use Rattle.std.specs.Prelude.{ℕ, ◌+◌, ◌*◌, ◌≤◌, Bool, false, not, ◌&&◌, List, ◌++◌, length, filter, sum_by}
+use Rattle.std.specs.Prelude.{ℕ, ◌+◌, ◌*◌, ◌≤◌, Bool, false, not, List, length, filter, sum_by}
 use Rattle.uss_event.specs.declared.entries.Entry.{Entry}
 use Rattle.uss_event.specs.declared.entries.Entry.TheVariants.{Opened, TicketOpen, Pending, Held, Deciding, Done, TicketGone, Sent}
 use Rattle.uss_event.specs.declared.entries.Entry.TheVariants as Enters
-use Rattle.uss_law_book.specs.Lists.{Opening, openings}
+use Rattle.uss_law_book.specs.Lists.{openings}
 use Rattle.uss_law_book.specs.Readings.{is_closed, is_open, untold, keeps_ticket}
 use Rattle.uss_law_book.specs.Coding.{journal_length}
 
