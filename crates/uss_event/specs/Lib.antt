@@ -2,3 +2,4 @@ pub mod Rules
 pub mod Plans
 pub mod Pairs
 pub mod Transitions
+pub mod Verdicts
