@@ -4,3 +4,4 @@ pub mod Sends
 pub mod Entered
 pub mod Sayings
 pub mod Duties
+pub mod Worked
