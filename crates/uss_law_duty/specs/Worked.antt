@@ -131,3 +131,18 @@ planned = Says.Answer (Planned flight 1 0 ovn 1)
 
 abbrev pub missing : DssReply
 missing = Replies.Refused (Refuses.MissingKey (record the_reference { flight = 2; ovn = None } ∷ []))
+
+abbrev pub cancelled_book : List Entry
+cancelled_book = tried_book ++ cancelling ∷ []
+
+abbrev pub held_book : List Entry
+held_book = tried_book ++ recorded ∷ []
+
+abbrev pub done : Entry
+done = Enters.Done 1 Ends.Cancelled
+
+abbrev pub get : DssAsk
+get = Asks.Get flight
+
+abbrev pub exists : DssReply
+exists = Replies.Refused Refuses.Exists

@@ -1,2 +1,40 @@
 //! What one step of a supplier may do: what it may enter, send and say. Definitions and laws, and no code that runs.
+//!
+//! `specs/Heard.antt` has what a supplier heard and which pairs it keeps of it, `specs/Answers.antt` the answers that a book keeps,
+//! `specs/Sends.antt`, `specs/Entered.antt` and `specs/Sayings.antt` what may be sent, entered and said, and `specs/Duties.antt` the
+//! whole of a step. `specs/Worked.antt` has a worked job. The functions below do nothing: their contracts carry the laws.
 #![tactic(auto)]
+
+ghost use Rattle.std.specs.Prelude.{[], Some, None};
+ghost use Rattle.uss_event.specs.declared.events.Answer.TheVariants as Answers;
+ghost use Rattle.uss_event.specs.declared.events.Said.TheVariants as Says;
+ghost use Rattle.uss_event.specs.declared.events.Event.TheVariants as Comes;
+ghost use Rattle.uss_intent.specs.declared.calls.DssReply.TheVariants as Replies;
+ghost use Rattle.uss_law_duty.specs.Duties.{MayStep};
+ghost use Rattle.uss_law_duty.specs.Worked.{now, ask, opened, heard_open, pending, recorded, cancelling, done, new_book, asked_book, ticket_book, tried_book, cancelled_book, sends, replied, ticket_put, query, put, get, ticket_remove, the_ticket, the_reference, planned, missing, exists};
+
+/// A supplier may plan a flight: it opens a job for the request and asks for its ticket, asks what is there once it has the ticket,
+/// makes an attempt where nothing is there, and enters what landed as held.
+pub fn a_flight_may_be_planned()
+    ensures asking { MayStep new_book [] now (Comes.Ask ask) (Some opened) (sends ticket_put) Says.Nothing [] }
+    ensures ticket_made { MayStep asked_book [] now (replied ticket_put (Replies.TicketMade the_ticket)) (Some heard_open) (sends query) Says.Nothing [] }
+    ensures nothing_found { MayStep ticket_book [] now (replied query (Replies.Found [])) (Some pending) (sends put) Says.Nothing [] }
+    ensures landed { MayStep tried_book [] now (replied put (Replies.Landed the_reference [])) (Some recorded) [] planned [] }
+{
+}
+
+/// A supplier may go on where its key lacked something, and after a restart; and it may find a landing whose reply was lost.
+pub fn a_job_may_go_on()
+    ensures lacked { MayStep tried_book [] now (replied put missing) None (sends query) Says.Nothing [] }
+    ensures resumed { MayStep tried_book [] now (Comes.Ask ask) None (sends put) Says.Nothing [] }
+    ensures asks_again { MayStep tried_book [] now (replied put exists) None (sends get) Says.Nothing [] }
+    ensures got { MayStep tried_book [] now (replied get (Replies.Got the_reference)) (Some recorded) [] planned [] }
+{
+}
+
+/// A supplier may cancel a request after an attempt, once the attempt's ticket is gone.
+pub fn a_job_may_be_cancelled()
+    ensures cancels { MayStep tried_book [] now (Comes.Cancel 1 1) (Some cancelling) (sends ticket_remove) Says.Nothing [] }
+    ensures cancelled { MayStep cancelled_book [] now (replied ticket_remove (Replies.TicketRemoved the_ticket)) (Some done) [] (Says.Answer Answers.Cancelled) [] }
+{
+}
