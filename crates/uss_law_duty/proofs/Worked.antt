@@ -1,11 +1,11 @@
 -- The worked steps are allowed.
-use Rattle.std.proofs.Common.{ℕ, ◌≤◌, ◌<◌, ◌^◌, ◌≡◌, ◌⊎◌, inl, inr, ℤ, pos, true, false, List, [], ◌∷◌, ◌++◌, length, refl, ap, sym, subst, arith, codes, Option, Some, None}
+use Rattle.std.proofs.Common.{◌≤◌, ◌≡◌, inl, inr, true, [], ◌∷◌, ◌++◌, refl, ap, sym, subst, arith, codes, Some, None}
 use Rattle.std.specs.Prelude.{IsTrue}
 use Rattle.std.proofs.lemmas.Fmt.{decimal_digit}
 use Rattle.std.proofs.lemmas.List.Elements.{All-from_recursion}
 use Rattle.uss_shape.specs.Shape.{IsOutline, bounds_of}
 use Rattle.uss_shape.specs.Plane.{InPlane}
-use Rattle.uss_vol4.specs.Volume.{Volume4D, IsVolume}
+use Rattle.uss_vol4.specs.Volume.{IsVolume}
 use Rattle.uss_vol4.specs.Bounding.{bounding_box}
 use Rattle.uss_intent.specs.declared.records.State.TheVariants.{Accepted}
 use Rattle.uss_intent.specs.Texts.{IsOvn}
@@ -22,7 +22,7 @@ use Rattle.uss_event.specs.declared.events.Said.TheVariants as Says
 use Rattle.uss_event.specs.declared.events.Event.TheVariants as Comes
 use Rattle.uss_law_dss.specs.Lists.{Has}
 use Rattle.uss_law_book.specs.Coding.{IsAsk, IsProposal, IsSubscriber, journal_length}
-use Rattle.uss_law_book.specs.Readings.{is_open, opening_of, is_held, is_done, trials_of, trial_of, owns, decision_of, holding_of, ending_of, jobs_of, open_job_of, last_of, is_job_of, has_ended, holdings_of, holding, is_ticket_open, is_ticket_gone, owed_of, is_told, untold}
+use Rattle.uss_law_book.specs.Readings.{is_open, opening_of, is_held, is_done, trials_of, trial_of, owns, decision_of, holding_of, ending_of, jobs_of, open_job_of, last_of, has_ended, holdings_of, holding, is_ticket_open, is_ticket_gone, owed_of, is_told, untold}
 use Rattle.uss_law_book.specs.Attempts.{Attempted, attempted, attempt_of, put_of, held}
 use Rattle.uss_law_book.specs.Lists.{Opening}
 use Rattle.uss_law_book.specs.Reserve.{need, reserved}
@@ -34,7 +34,7 @@ use Rattle.uss_law_duty.specs.Entered.{shown_tag, IsPutWith, HoldsByReply}
 use Rattle.uss_law_duty.specs.Answers.{kept_answer, job_named}
 use Rattle.uss_law_duty.specs.Sayings.{IsKeptAnswer}
 
-each_one : {X : Type 0} (P : X → Type 0) (y : X) → P y → (x : X) → Has (y ∷ []) x → P x
+pub each_one : {X : Type 0} (P : X → Type 0) (y : X) → P y → (x : X) → Has (y ∷ []) x → P x
 each_one P y h x (inl e) = subst P e h
 each_one P y h x (inr n) = absurd n
 
@@ -44,8 +44,11 @@ valid_outline =
       enough = omega arith;
       few = omega arith;
       in_plane = All-from_recursion InPlane volume.outline (
-        (omega arith, omega arith, omega arith, omega arith), ((omega arith, omega arith, omega arith, omega arith),
-        ((omega arith, omega arith, omega arith, omega arith), ((omega arith, omega arith, omega arith, omega arith), tt))),
+        (omega arith, omega arith, omega arith, omega arith),
+        (
+          (omega arith, omega arith, omega arith, omega arith),
+          ((omega arith, omega arith, omega arith, omega arith), ((omega arith, omega arith, omega arith, omega arith), tt)),
+        ),
       );
     }
 
@@ -146,14 +149,14 @@ asking =
       goes_on = λ e. inr refl;
     }
 
-none_sent : (P : Outgoing → Type 0) (x : Outgoing) → Has [] x → P x
+pub none_sent : (P : Outgoing → Type 0) (x : Outgoing) → Has [] x → P x
 none_sent P x h = absurd h
 
 room_asked : reserved (asked_book) ≤ 536870912
 unfolding reserved need journal_length opening_of is_held is_done is_ticket_open is_ticket_gone decision_of untold owed_of holding_of ending_of is_told
 room_asked = omega arith
 
-room_ticket : reserved (ticket_book) ≤ 536870912
+pub room_ticket : reserved (ticket_book) ≤ 536870912
 unfolding reserved need journal_length opening_of is_held is_done is_ticket_open is_ticket_gone decision_of untold owed_of holding_of ending_of is_told
 room_ticket = omega arith
 
@@ -165,7 +168,7 @@ room_cancelled : reserved (cancelled_book) ≤ 536870912
 unfolding reserved need journal_length opening_of is_held is_done is_ticket_open is_ticket_gone decision_of untold owed_of holding_of ending_of is_told
 room_cancelled = omega arith
 
-room_held : reserved (held_book) ≤ 536870912
+pub room_held : reserved (held_book) ≤ 536870912
 unfolding reserved need journal_length opening_of is_held is_done is_ticket_open is_ticket_gone decision_of untold owed_of holding_of ending_of is_told
 room_held = omega arith
 
@@ -173,7 +176,7 @@ room_done : reserved (cancelled_book ++ done ∷ []) ≤ 536870912
 unfolding reserved need journal_length opening_of is_held is_done is_ticket_open is_ticket_gone decision_of untold owed_of holding_of ending_of is_told
 room_done = omega arith
 
-the_opening : Opening
+pub the_opening : Opening
 the_opening = record { job = 1; moment = now; ask = ask }
 
 -- the ticket is there: the airspace is asked for

@@ -1,5 +1,5 @@
 -- A worked job of one supplier, step by step: the request, its ticket, what is found, the attempt and its record; and what else may come.
-use Rattle.std.specs.Prelude.{ℕ, ◌≡◌, ℤ, pos, List, [], ◌∷◌, ◌++◌, codes, Option, Some, None}
+use Rattle.std.specs.Prelude.{ℕ, ℤ, pos, List, [], ◌∷◌, ◌++◌, codes, Some, None}
 use Rattle.uss_shape.specs.Shape.{corners}
 use Rattle.uss_vol4.specs.Volume.{Volume4D}
 use Rattle.uss_intent.specs.Identifiers.{flight_number, ticket_number}
@@ -20,6 +20,10 @@ use Rattle.uss_event.specs.declared.entries.Entry.{Entry}
 use Rattle.uss_event.specs.declared.entries.Entry.TheVariants as Enters
 use Rattle.uss_event.specs.declared.calls.Outgoing.{Outgoing}
 use Rattle.uss_event.specs.declared.calls.Outgoing.TheVariants as Goes
+use Rattle.uss_event.specs.Pairs.{OperationalIntent}
+use Rattle.uss_event.specs.declared.calls.PeerCall.{PeerCall}
+use Rattle.uss_event.specs.declared.calls.PeerCall.TheVariants as Calls
+use Rattle.uss_law_book.specs.Attempts.{attempted, recorded_as}
 use Rattle.uss_event.specs.declared.events.Answer.TheVariants.{Planned}
 use Rattle.uss_event.specs.declared.events.Said.{Said}
 use Rattle.uss_event.specs.declared.events.Said.TheVariants as Says
@@ -146,3 +150,65 @@ get = Asks.Get flight
 
 abbrev pub exists : DssReply
 exists = Replies.Refused Refuses.Exists
+
+-- another supplier's flight, 2 m above the volume, as its manager served it
+abbrev pub above : Volume4D
+above = record volume { low = pos 3000; high = pos 4000 }
+
+abbrev pub other_ovn : List ℕ
+other_ovn = codes "ovn-0000000000000007"
+
+abbrev pub other_reference : Reference
+other_reference =
+    record {
+      flight = flight_number 2 1;
+      manager = codes "uss2";
+      version = 1;
+      state = Accepted;
+      ovn = Some other_ovn;
+      start = volume.start;
+      end = volume.end;
+      base = codes "http://uss2.test/a/1";
+      ticket = ticket_number 2 1;
+    }
+
+abbrev pub other_pair : OperationalIntent
+other_pair = record { reference = other_reference; details = record { volumes = above ∷ []; off_nominal = []; priority = 0 } }
+
+abbrev pub keyed : Entry
+keyed = Enters.Pending 1 1 0 None (other_ovn ∷ [])
+
+abbrev pub keyed_put : DssAsk
+keyed_put = Asks.Put flight None (volume ∷ []) (other_ovn ∷ []) Accepted (codes "http://uss1.test/a/1") ticket
+
+abbrev pub keyed_book : List Entry
+keyed_book = ticket_book ++ keyed ∷ []
+
+abbrev pub details_of_other : PeerCall
+details_of_other = Calls.Details 1 (flight_number 2 1) (codes "uss2") (codes "http://uss2.test/a/1")
+
+-- what is held once the attempt is recorded
+abbrev pub held_pair : OperationalIntent
+held_pair = recorded_as (attempted owner (record { job = 1; moment = now; ask = ask }) (record { job = 1; tag = 1; alternative = 0; previous = None; key = [] }) Accepted 0 proposal) ovn 1
+
+-- the end of the flight, by its request number 2
+abbrev pub end_ask : FlightAsk
+end_ask = record { flight = 1; number = 2; wish = Wishes.End }
+
+abbrev pub end_opened : Entry
+end_opened = Enters.Opened 2 now end_ask
+
+abbrev pub ending_book : List Entry
+ending_book = held_book ++ end_opened ∷ []
+
+abbrev pub remove : DssAsk
+remove = Asks.Remove flight ovn
+
+abbrev pub end_sends : DssAsk → List Outgoing
+end_sends call = Goes.Dss (record { job = 2; ask = call }) ∷ []
+
+abbrev pub end_replied : DssAsk → DssReply → Event
+end_replied call reply = Comes.Dss (record { job = 2; ask = call }) reply
+
+abbrev pub end_done : Entry
+end_done = Enters.Done 2 (Ends.Ended [])
