@@ -66,7 +66,7 @@ may_try_keyed =
       blind = tt;
     }
 
-keyed_follows : MayFollow ticket_book keyed
+pub keyed_follows : MayFollow ticket_book keyed
 keyed_follows =
     record {
       first = refl;
@@ -186,7 +186,7 @@ may_open_end : MayOpen held_book 2 end_ask
 unfolding open_job_of last_of jobs_of has_ended is_held is_done
 may_open_end = record { next = refl; free = refl; alive = refl; later = omega arith; wish = rw held_is_accepted refl }
 
-end_follows : MayFollow held_book end_opened
+pub end_follows : MayFollow held_book end_opened
 end_follows =
     record {
       first = refl;
@@ -225,7 +225,7 @@ may_end_flight : MayEnd ending_book 2 (Ends.Ended [])
 unfolding opening_of is_held is_done
 may_end_flight = record { opening = record { job = 2; moment = now; ask = end_ask }; opened = refl; unclosed = refl; wish = tt }
 
-end_done_follows : MayFollow ending_book end_done
+pub end_done_follows : MayFollow ending_book end_done
 end_done_follows =
     record {
       first = refl;

@@ -87,7 +87,7 @@ valid_ask =
     }
 
 -- the room that is used and kept free, as a number
-room_before : reserved new_book ≤ 536870912
+pub room_before : reserved new_book ≤ 536870912
 unfolding reserved need journal_length
 room_before = omega arith
 
@@ -110,7 +110,7 @@ may_open : MayOpen new_book 1 ask
 unfolding open_job_of last_of jobs_of has_ended held holding holdings_of
 may_open = record { next = refl; free = refl; alive = refl; later = tt; wish = (are_plans, refl) }
 
-opens : MayFollow new_book opened
+pub opens : MayFollow new_book opened
 opens =
     record {
       first = refl;
@@ -193,7 +193,7 @@ may_open_ticket =
       new = refl;
     }
 
-heard_open_follows : MayFollow asked_book heard_open
+pub heard_open_follows : MayFollow asked_book heard_open
 heard_open_follows = record { first = refl; coding = omega arith; due = may_open_ticket; room_before = room_asked; room_after = room_ticket }
 
 pub ticket_made : MayStep asked_book [] now (replied ticket_put (Replies.TicketMade the_ticket)) (Some heard_open) (sends query) Says.Nothing []
@@ -238,7 +238,7 @@ may_try =
       blind = tt;
     }
 
-pending_follows : MayFollow ticket_book pending
+pub pending_follows : MayFollow ticket_book pending
 pending_follows =
     record {
       first = refl;
@@ -300,7 +300,7 @@ may_hold : MayHold tried_book 1 1
 unfolding owns
 may_hold = record { unfinished = is_open_still; own = refl }
 
-recorded_follows : MayFollow tried_book recorded
+pub recorded_follows : MayFollow tried_book recorded
 recorded_follows =
     record {
       first = refl;
@@ -482,7 +482,7 @@ may_decide =
       so = tt;
     }
 
-cancelling_follows : MayFollow tried_book cancelling
+pub cancelling_follows : MayFollow tried_book cancelling
 cancelling_follows = record { first = refl; coding = (omega arith, tt); due = may_decide; room_before = room_tried; room_after = room_cancelled }
 
 removes_ticket : IsTicketRemoveOf owner cancelled_book 1 ticket_remove
@@ -515,7 +515,7 @@ may_end : MayEnd cancelled_book 1 Ends.Cancelled
 unfolding opening_of is_held is_done decision_of trials_of the_opening
 may_end = record { opening = the_opening; opened = refl; unclosed = refl; wish = inl refl }
 
-done_follows : MayFollow cancelled_book done
+pub done_follows : MayFollow cancelled_book done
 done_follows = record { first = refl; coding = (omega arith, tt); due = may_end; room_before = room_cancelled; room_after = room_done }
 
 kept_as_cancelled : IsKeptAnswer owner (cancelled_book ++ done ∷ []) (replied ticket_remove (Replies.TicketRemoved the_ticket)) Cancelled

@@ -5,15 +5,16 @@
 //! whole of a step. `specs/Worked.antt` has a worked job. The functions below do nothing: their contracts carry the laws.
 #![tactic(auto)]
 
-ghost use Rattle.std.specs.Prelude.{[], ◌∷◌, codes, Some, None};
+ghost use Rattle.std.specs.Prelude.{[], ◌∷◌, ◌++◌, codes, Some, None};
 ghost use Rattle.uss_event.specs.declared.events.Answer.TheVariants as Answers;
 ghost use Rattle.uss_event.specs.declared.events.Said.TheVariants as Says;
 ghost use Rattle.uss_event.specs.declared.events.Event.TheVariants as Comes;
 ghost use Rattle.uss_intent.specs.declared.calls.DssReply.TheVariants as Replies;
 ghost use Rattle.uss_event.specs.declared.calls.PeerReply.TheVariants as Peers;
+ghost use Rattle.uss_law_book.specs.Legal.{IsLegal};
 ghost use Rattle.uss_law_duty.specs.Heard.News.{Heard};
 ghost use Rattle.uss_law_duty.specs.Duties.{MayStep};
-ghost use Rattle.uss_law_duty.specs.Worked.{flight, held_book, other_pair, keyed, keyed_put, details_of_other, held_pair, end_ask, end_opened, ending_book, remove, end_sends, end_replied, end_done, now, ask, opened, heard_open, pending, recorded, cancelling, done, new_book, asked_book, ticket_book, tried_book, cancelled_book, sends, replied, ticket_put, query, put, get, ticket_remove, the_ticket, the_reference, planned, missing, exists};
+ghost use Rattle.uss_law_duty.specs.Worked.{flight, held_book, other_pair, keyed, keyed_put, keyed_book, details_of_other, held_pair, end_ask, end_opened, ending_book, remove, end_sends, end_replied, end_done, now, ask, opened, heard_open, pending, recorded, cancelling, done, new_book, asked_book, ticket_book, tried_book, cancelled_book, sends, replied, ticket_put, query, put, get, ticket_remove, the_ticket, the_reference, planned, missing, exists};
 
 /// A supplier may plan a flight: it opens a job for the request and asks for its ticket, asks what is there once it has the ticket,
 /// makes an attempt where nothing is there, and enters what landed as held.
@@ -45,3 +46,12 @@ pub fn a_job_may_be_cancelled()
     ensures cancels { MayStep tried_book [] now (Comes.Cancel 1 1) (Some cancelling) (sends ticket_remove) Says.Nothing [] }
     ensures cancelled { MayStep cancelled_book [] now (replied ticket_remove (Replies.TicketRemoved the_ticket)) (Some done) [] (Says.Answer Answers.Cancelled) [] }
 {}
+
+/// The books of the worked steps are legal, from the owner's entry on: a flight that is planned and then ended, a request that is
+/// cancelled, and an attempt with a key.
+pub fn the_worked_books_are_legal()
+    ensures ended { IsLegal (ending_book ++ end_done ∷ []) }
+    ensures cancelled { IsLegal (cancelled_book ++ done ∷ []) }
+    ensures keyed { IsLegal keyed_book }
+{
+}
