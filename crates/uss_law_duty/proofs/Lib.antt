@@ -1,3 +1,4 @@
 pub mod Worked
 pub mod Further
 pub mod Books
+pub mod Stays

@@ -5,15 +5,20 @@
 //! whole of a step. `specs/Worked.antt` has a worked job. The functions below do nothing: their contracts carry the laws.
 #![tactic(auto)]
 
-ghost use Rattle.std.specs.Prelude.{[], ◌∷◌, ◌++◌, codes, Some, None};
+ghost use Rattle.std.specs.Prelude.{[], ◌∷◌, ◌++◌, ℤ, List, Option, codes, Some, None};
 ghost use Rattle.uss_event.specs.declared.events.Answer.TheVariants as Answers;
 ghost use Rattle.uss_event.specs.declared.events.Said.TheVariants as Says;
 ghost use Rattle.uss_event.specs.declared.events.Event.TheVariants as Comes;
 ghost use Rattle.uss_intent.specs.declared.calls.DssReply.TheVariants as Replies;
 ghost use Rattle.uss_event.specs.declared.calls.PeerReply.TheVariants as Peers;
 ghost use Rattle.uss_law_book.specs.Legal.{IsLegal};
+ghost use Rattle.uss_event.specs.declared.entries.Entry.{Entry};
+ghost use Rattle.uss_event.specs.declared.calls.Outgoing.{Outgoing};
+ghost use Rattle.uss_event.specs.declared.events.Said.{Said};
+ghost use Rattle.uss_event.specs.declared.events.Event.{Event};
+ghost use Rattle.uss_law_duty.specs.Heard.{News};
 ghost use Rattle.uss_law_duty.specs.Heard.News.{Heard};
-ghost use Rattle.uss_law_duty.specs.Duties.{MayStep};
+ghost use Rattle.uss_law_duty.specs.Duties.{book_after, MayStep};
 ghost use Rattle.uss_law_duty.specs.Worked.{flight, held_book, other_pair, keyed, keyed_put, keyed_book, details_of_other, held_pair, end_ask, end_opened, ending_book, remove, end_sends, end_replied, end_done, now, ask, opened, heard_open, pending, recorded, cancelling, done, new_book, asked_book, ticket_book, tried_book, cancelled_book, sends, replied, ticket_put, query, put, get, ticket_remove, the_ticket, the_reference, planned, missing, exists};
 
 /// A supplier may plan a flight: it opens a job for the request and asks for its ticket, asks what is there once it has the ticket,
@@ -53,5 +58,10 @@ pub fn the_worked_books_are_legal()
     ensures ended { IsLegal (ending_book ++ end_done ∷ []) }
     ensures cancelled { IsLegal (cancelled_book ++ done ∷ []) }
     ensures keyed { IsLegal keyed_book }
-{
-}
+{}
+
+/// A legal book is still legal after a step that is allowed.
+pub fn a_step_leaves_a_legal_book()
+    ensures { (book : List Entry) (heard : List News) (moment : ℤ) (event : Event) (entry : Option Entry) (sends : List Outgoing) (said : Said) (after : List News)
+        → IsLegal book → MayStep book heard moment event entry sends said after → IsLegal (book_after book entry) }
+{}
