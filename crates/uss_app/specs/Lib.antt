@@ -1,2 +1,4 @@
 pub mod Words
 pub mod Conflict
+pub mod Discover
+pub mod Says

@@ -1,8 +1,15 @@
 -- The words after the program's name. This project's own.
-use Rattle.std.specs.Prelude.{ℕ, Bool, false, List, [], ◌∷◌, bytes_eq, codes}
+use Rattle.std.specs.Prelude.{ℕ, List, [], ◌∷◌, Option, Some, None, bytes_eq, codes, if◌then◌else◌}
+use Rattle.uss_app.specs.declared.commands.Command.{Command}
+use Rattle.uss_app.specs.declared.commands.Command.TheVariants.{Conflict, Discover}
 
--- the one word `conflict`
-abbrev pub is_conflict : List (List ℕ) → Bool
-is_conflict [] = false
-is_conflict (word ∷ []) = bytes_eq word (codes "conflict")
-is_conflict (word ∷ other ∷ others) = false
+-- the command that a word names
+abbrev pub named : List ℕ → Option Command
+named word = if bytes_eq word (codes "conflict") then Some Conflict
+    else (if bytes_eq word (codes "discover") then Some Discover else None)
+
+-- one word names a command
+abbrev pub command_of : List (List ℕ) → Option Command
+command_of [] = None
+command_of (word ∷ []) = named word
+command_of (word ∷ other ∷ others) = None

@@ -1,17 +1,23 @@
 //! The top call: what the program does with its words, its input and its output, over any source and sink.
 #![tactic(auto)]
 
-ghost use Rattle.std.specs.Prelude.{◌≡◌, ℕ, ◌≤◌, ◌⊎◌, ◌↔◌, ◌++◌, List, true, false, map, Option, Some, string_bytes};
+ghost use Rattle.std.specs.Prelude.{◌≡◌, ℕ, ◌≤◌, ◌⊎◌, ◌↔◌, ◌++◌, List, [], map, Option, Some, None, string_bytes};
 ghost use Rattle.uss_cause.specs.Cause.{Rose};
 ghost use Rattle.uss_link.specs.Bytes.{TookFront};
-ghost use Rattle.uss_app.specs.Words.{is_conflict};
-ghost use Rattle.uss_app.specs.Conflict.{Says, Wrote, Began};
+ghost use Rattle.uss_app.specs.Words as named;
+ghost use Rattle.uss_app.specs.Says.{Says, Wrote, Began};
+ghost use Rattle.uss_app.specs.declared.commands.Command.{Command};
 
+mod answer;
+mod commands;
 mod conflict;
+mod discover;
 #[cfg(test)]
 mod tests;
 
-use conflict::{Answer, Stop, answer_to};
+use answer::{Answer, Stop, answer_to};
+pub use commands::Command;
+use commands::command_of;
 use std::alloc::Global;
 use uss_link::{Sink, Source, WriteFault, write_all};
 
@@ -33,8 +39,12 @@ const MEMORY: u8 = 4;
 /// - 3: the count of faults of the input or of the output rose; what was written is a front of the answer;
 /// - 4: memory was wanting; nothing was written.
 ///
-/// The words are `conflict`: the least pair of volumes of two lists that shares a point of airspace and time.
-/// The input is judged whole before anything is written.
+/// The words are one of these:
+///
+/// - `conflict`: the least pair of volumes of two lists that shares a point of airspace and time;
+/// - `discover`: calls of a discovery service that begins empty, and its replies.
+///
+/// The input is judged whole before its first call is carried out and before anything is written.
 pub fn command<S: Source, K: Sink>(
     alloc: Global,
     words: &[String],
@@ -42,37 +52,28 @@ pub fn command<S: Source, K: Sink>(
     output: &mut K,
 ) -> u8
     ensures status { result ≤ 4 }
-    ensures usage { (result ≡ 2) ↔ (is_conflict (map string_bytes words.now) ≡ false) }
+    ensures usage { (result ≡ 2) ↔ (named.command_of (map string_bytes words.now) ≡ None) }
     ensures unread { result ≡ 2 → input.new ≡ input.old }
     ensures unwritten { result ≡ 2 → output.new ≡ output.old }
     ensures nothing_yet { result ≡ 4 → output.new ≡ output.old }
 
     // where the source tells what it has left, and the sink what it took
-    ensures written { (left taken : List ℕ) → S.left input.old ≡ Some left → K.taken output.old ≡ Some taken → result ≤ 1 → Wrote left taken (K.taken output.new) result }
-    ensures begun { (left taken : List ℕ) → S.left input.old ≡ Some left → K.taken output.old ≡ Some taken → result ≡ 3 → Began left taken (K.taken output.new) }
+    ensures written { (c : Command) (left taken : List ℕ) → named.command_of (map string_bytes words.now) ≡ Some c → S.left input.old ≡ Some left → K.taken output.old ≡ Some taken → result ≤ 1 → Wrote c left taken (K.taken output.new) result }
+    ensures read_whole { (left : List ℕ) → S.left input.old ≡ Some left → result ≡ 0 → S.left input.new ≡ Some [] }
+    ensures begun { (c : Command) (left taken : List ℕ) → named.command_of (map string_bytes words.now) ≡ Some c → S.left input.old ≡ Some left → K.taken output.old ≡ Some taken → result ≡ 3 → Began c left taken (K.taken output.new) }
 
     // a fault has its cause
     ensures fault { result ≡ 3 → Rose (S.faults input.old) (S.faults input.new) ⊎ Rose (K.faults output.old) (K.faults output.new) }
     ensures source_kept { S.faults input.old ≤ S.faults input.new }
     ensures sink_kept { K.faults output.old ≤ K.faults output.new }
 {
-    if !names_conflict(words) {
+    let Some(command) = command_of(words) else {
         return USAGE;
-    }
-    match answer_to(alloc, input) {
+    };
+    match answer_to(alloc, command, input) {
         Ok(answer) => told(&answer, output),
         Err(Stop::Fault) => FAULT,
         Err(Stop::Memory) => MEMORY,
-    }
-}
-
-/// Whether the words are the one word `conflict`.
-fn names_conflict(words: &[String]) -> bool
-    ensures { result ≡ is_conflict (map string_bytes words.now) }
-{
-    match words {
-        [word] => word.as_str() == "conflict",
-        _ => false,
     }
 }
 

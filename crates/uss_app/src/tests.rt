@@ -2,13 +2,17 @@ use super::*;
 use std::test::Fail;
 use uss_link::{MemorySink, MemorySource};
 
-/// The status of `conflict` over this input, and what was written.
-fn run(alloc: Global, input: Vec<u8>) -> Result<(u8, Vec<u8>), Fail> {
-    let words = vec![in alloc; String::from_str(alloc, "conflict")?]?;
+/// The status of a command over this input, and what was written.
+fn run_of(alloc: Global, command_word: &str, input: Vec<u8>) -> Result<(u8, Vec<u8>), Fail> {
+    let words = vec![in alloc; String::from_str(alloc, command_word)?]?;
     let mut source = MemorySource::new(alloc, input);
     let mut sink = MemorySink::new(alloc);
     let status = command(alloc, words.as_slice(), &mut source, &mut sink);
     Ok((status, Vec::from_slice(alloc, sink.taken())?))
+}
+
+fn run(alloc: Global, input: Vec<u8>) -> Result<(u8, Vec<u8>), Fail> {
+    run_of(alloc, "conflict", input)
 }
 
 const SQUARE: &str = "a rect 0 0 10 10 0 100 1700003600000000000 1700005400000000000\n";
@@ -111,6 +115,70 @@ fn other_words_are_refused(rt: HostRuntime) -> Result<(), Fail> {
         assert_eq!(rt; status, 2);
         assert_eq!(rt; source.calls(), 0);
         assert_eq!(rt; sink.calls(), 0);
+    }
+    Ok(())
+}
+
+const CALLS: &str =
+    "alpha tput 00000001-0001-4000-8000-000000000001 http://a.test rect 0 0 100 100 0 1000 1700003600000000000 1700005400000000000
+alpha put 00000001-0000-4000-8000-000000000001 - Accepted http://a.test/a/1 00000001-0001-4000-8000-000000000001 key 0 vols 1 rect 0 0 100 100 0 1000 1700003600000000000 1700005400000000000
+beta get 00000001-0000-4000-8000-000000000001
+beta remove 00000001-0000-4000-8000-000000000001 ovn-0000000000000001
+alpha tremove 00000001-0001-4000-8000-000000000001 1
+alpha remove 00000001-0000-4000-8000-000000000001 ovn-0000000000000009
+alpha remove 00000001-0000-4000-8000-000000000001 ovn-0000000000000001
+alpha tremove 00000001-0001-4000-8000-000000000001 1
+alpha tget 00000001-0001-4000-8000-000000000001
+beta get 00000002-0000-4000-8000-000000000001
+";
+
+const REPLIES: &str = "ticket 00000001-0001-4000-8000-000000000001 alpha 1 0
+landed
+ref 00000001-0000-4000-8000-000000000001 alpha 1 Accepted ovn-0000000000000001 1700003600000000000 1700005400000000000 http://a.test/a/1 00000001-0001-4000-8000-000000000001
+subscribers 0
+ref 00000001-0000-4000-8000-000000000001 alpha 1 Accepted - 1700003600000000000 1700005400000000000 http://a.test/a/1 00000001-0001-4000-8000-000000000001
+refused 202
+refused 210
+refused 206
+removed
+ref 00000001-0000-4000-8000-000000000001 alpha 1 Accepted ovn-0000000000000001 1700003600000000000 1700005400000000000 http://a.test/a/1 00000001-0001-4000-8000-000000000001
+subscribers 0
+tremoved 00000001-0001-4000-8000-000000000001
+refused 204
+refused 205
+";
+
+const CONTESTED: &str =
+    "alpha tput 00000001-0001-4000-8000-000000000001 http://a.test rect 0 0 100 100 0 1000 1700003600000000000 1700005400000000000
+alpha put 00000001-0000-4000-8000-000000000001 - Accepted http://a.test/a/1 00000001-0001-4000-8000-000000000001 key 0 vols 1 rect 0 0 100 100 0 1000 1700003600000000000 1700005400000000000
+beta tput 00000002-0001-4000-8000-000000000001 http://b.test rect 100 100 200 200 0 1000 1700005400000000000 1700007200000000000
+beta put 00000002-0000-4000-8000-000000000001 - Accepted http://b.test/a/1 00000002-0001-4000-8000-000000000001 key 0 vols 1 rect 100 100 200 200 0 1000 1700005400000000000 1700007200000000000
+";
+
+const MISSING: &str = "ticket 00000001-0001-4000-8000-000000000001 alpha 1 0
+landed
+ref 00000001-0000-4000-8000-000000000001 alpha 1 Accepted ovn-0000000000000001 1700003600000000000 1700005400000000000 http://a.test/a/1 00000001-0001-4000-8000-000000000001
+subscribers 0
+ticket 00000002-0001-4000-8000-000000000001 beta 1 0
+refused 209
+missing 1
+ref 00000001-0000-4000-8000-000000000001 alpha 1 Accepted - 1700003600000000000 1700005400000000000 http://a.test/a/1 00000001-0001-4000-8000-000000000001
+";
+
+#[test]
+fn calls_are_carried_out(rt: HostRuntime) -> Result<(), Fail> {
+    let alloc = rt.alloc();
+    let rows = [
+        ("", 0, ""),
+        (CALLS, 0, REPLIES),
+        (CONTESTED, 0, MISSING),
+        ("alpha get 0", 1, "refused 441 line 1\n"),
+        ("alpha fly", 1, "refused 441 line 1\n"),
+    ];
+    for (input, status, text) in rows {
+        let found = run_of(alloc, "discover", Vec::from_slice(alloc, input.as_bytes())?)?;
+        assert_eq!(rt; found.0, status, "{input}");
+        assert_eq!(rt; found.1.as_slice(), text.as_bytes(), "{input}");
     }
     Ok(())
 }

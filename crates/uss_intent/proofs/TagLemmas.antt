@@ -178,7 +178,7 @@ at_place : (g d : List ℕ) (n : ℕ) → ends_with nat_eq g (codes "/a/") ≡ t
 unfolding tag_at
 at_place g d n slash number = rw (take_at g d (length g) refl, drop_at g d (length g) refl, slash) number
 
-tagged_is_read : (f : List ℕ) (n : ℕ) → 1 ≤ n → n < 2 ^ 64 → tag_of (tagged_base f n) ≡ Some n
+pub tagged_is_read : (f : List ℕ) (n : ℕ) → 1 ≤ n → n < 2 ^ 64 → tag_of (tagged_base f n) ≡ Some n
 unfolding tag_at tag_of
 tagged_is_read f n low high =
     let g = f ++ codes "/a/" in

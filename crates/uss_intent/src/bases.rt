@@ -2,6 +2,7 @@ ghost use Rattle.std.specs.Prelude.{◌≡◌, ◌↔◌, ℕ, IsTrue, IfOk, IsE
 ghost use Rattle.std.specs.Cmp.{partial_equiv_from_equiv};
 ghost use Rattle.std.specs.Cmp.Lexicographic.{pointwise, nat_list_eq_equiv};
 ghost use Rattle.url.specs.Parser.{parse_url};
+ghost use Rattle.uss_intent.specs.Tags.{tag_of};
 ghost use Rattle.uss_intent.specs.Texts.{IsBase, is_plain_http, tagged_base};
 
 use crate::IntentRefusal;
@@ -70,10 +71,11 @@ impl Base {
     }
 
     /// The base URL of the attempt with this tag: this one with `/a/` and the tag in decimal. For a configured
-    /// base URL, which has at most 256 bytes.
+    /// base URL, which has at most 256 bytes. Only memory can be wanting: what is made is a base URL.
     pub fn tagged(&self, alloc: Global, tag: u64) -> Result<Base, AllocError>
         requires { length self.now ≤ 256 }
-        ensures { IfOk result (λ base. base ≡ tagged_base self.now tag) }
+        ensures value { IfOk result (λ base. base ≡ tagged_base self.now tag) }
+        ensures tag { 1 ≤ tag → IfOk result (λ base. tag_of base ≡ Some tag) }
     {
         let mut text = String::from_str(alloc, self.text.as_str())?;
         text.push_str("/a/")?;

@@ -172,6 +172,55 @@ impl Clone for DssAsk {
     }
 }
 
+impl Clone for DssRefusal {
+    ghost is_clone = { λ refusal copy. copy ≡ refusal };
+
+    fn clone(&self) -> Result<DssRefusal, AllocError> {
+        Ok(match self {
+            DssRefusal::BadCall => DssRefusal::BadCall,
+            DssRefusal::NotYours => DssRefusal::NotYours,
+            DssRefusal::Exists => DssRefusal::Exists,
+            DssRefusal::Retired => DssRefusal::Retired,
+            DssRefusal::Absent => DssRefusal::Absent,
+            DssRefusal::StaleOvn => DssRefusal::StaleOvn,
+            DssRefusal::NoTicket => DssRefusal::NoTicket,
+            DssRefusal::NotCovered => DssRefusal::NotCovered,
+            DssRefusal::MissingKey(references) => DssRefusal::MissingKey(references.clone()?),
+            DssRefusal::TicketInUse => DssRefusal::TicketInUse,
+            DssRefusal::Full(limit) => DssRefusal::Full(*limit),
+        })
+    }
+}
+
+impl Clone for DssReply {
+    ghost is_clone = { λ reply copy. copy ≡ reply };
+
+    fn clone(&self) -> Result<DssReply, AllocError> {
+        Ok(match self {
+            DssReply::Found(references) => DssReply::Found(references.clone()?),
+            DssReply::Got(reference) => DssReply::Got(reference.clone()?),
+            DssReply::Landed {
+                reference,
+                subscribers,
+            } => DssReply::Landed {
+                reference: reference.clone()?,
+                subscribers: subscribers.clone()?,
+            },
+            DssReply::Removed {
+                reference,
+                subscribers,
+            } => DssReply::Removed {
+                reference: reference.clone()?,
+                subscribers: subscribers.clone()?,
+            },
+            DssReply::TicketMade(ticket) => DssReply::TicketMade(ticket.clone()?),
+            DssReply::TicketGot(ticket) => DssReply::TicketGot(ticket.clone()?),
+            DssReply::TicketRemoved(ticket) => DssReply::TicketRemoved(ticket.clone()?),
+            DssReply::Refused(refusal) => DssReply::Refused(refusal.clone()?),
+        })
+    }
+}
+
 impl PartialEq for DssAsk {
     ghost use Rattle.std.specs.Cmp.{partial_equiv_from_equiv};
     ghost use Rattle.uss_intent.specs.Same.{same_ask};

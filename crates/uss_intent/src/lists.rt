@@ -1,4 +1,5 @@
-ghost use Rattle.std.specs.Prelude.{◌≡◌, ◌==◌, ◌↔◌, true, ℕ, IsTrue, [], ◌∷◌, ◌++◌, List, length, if◌then◌else◌, is_ok, IfErr};
+ghost use Rattle.std.specs.Prelude.{◌≡◌, ◌==◌, ◌↔◌, true, ℕ, IsTrue, [], ◌∷◌, ◌++◌, List, length, if◌then◌else◌, is_ok, IfErr, IsSome, ◌<◌};
+ghost use Rattle.std.specs.Option.{option_to_list};
 ghost use Rattle.std.specs.List.{AllZip};
 ghost use Rattle.std.specs.Cmp.Lexicographic.{pointwise, lists_per};
 
@@ -87,6 +88,14 @@ impl<T> Sequence<T> {
         ensures back { IfErr result (λ e. e.value ≡ item) }
     {
         self.items.push(item)
+    }
+
+    /// Takes the last item out, if there is one. Takes no memory.
+    pub fn pop(&mut self) -> Option<T>
+        ensures items { self.old ≡ self.new ++ option_to_list result }
+        ensures some { IsSome result ↔ (0 < length self.old) }
+    {
+        self.items.pop()
     }
 }
 

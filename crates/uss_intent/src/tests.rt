@@ -1,10 +1,13 @@
 //! Texts, identifiers, tags and calls with known answers.
 use crate::{
-    Base, DssAsk, FlightId, IntentRefusal, Name, Ovn, Sequence, State, TicketId, flight_id, tag_of,
+    Base, DssAsk, DssReply, FlightId, IntentRefusal, Landing, Name, Ovn, Ovns, Recorded, Reference,
+    References, Sequence, State, Subscriber, Ticket, TicketId, Volumes, flight_id, tag_of,
     ticket_id,
 };
 use std::alloc::{AllocError, Global};
 use std::test::Fail;
+use uss_shape::{Outline, Rect};
+use uss_vol4::Volume4;
 
 // The number that refuses a text, and 0 where it is accepted.
 fn refused(number: Option<u16>) -> u16 {
@@ -185,5 +188,102 @@ fn calls_are_compared(rt: HostRuntime) -> Result<(), Fail> {
     ] {
         assert_eq!(rt; format!(in rt.alloc(); "{state}")?.as_str(), text);
     }
+    Ok(())
+}
+
+fn volume(alloc: Global) -> Result<Volume4, Fail> {
+    let rect = Rect {
+        x1: 0,
+        y1: 0,
+        x2: 100,
+        y2: 100,
+    };
+    let outline = Outline::rect(alloc, rect)?;
+    Ok(Volume4::of(
+        outline,
+        0,
+        1000,
+        1_700_003_600_000_000_000,
+        1_700_005_400_000_000_000,
+    )?)
+}
+
+fn reference(alloc: Global, version: u32) -> Result<Reference, Fail> {
+    Ok(Reference {
+        flight: flight_id(1, 1),
+        manager: Name::of(alloc, b"uss1")?,
+        version,
+        state: State::Accepted,
+        ovn: Some(Ovn::of(alloc, b"ovn-0000000000000001")?),
+        start: 1_700_003_600_000_000_000,
+        end: 1_700_005_400_000_000_000,
+        base: Base::of(alloc, b"http://uss1.test/a/1")?,
+        ticket: ticket_id(1, 1),
+    })
+}
+
+#[test]
+fn copies_are_the_same(rt: HostRuntime) -> Result<(), Fail> {
+    let first = reference(rt.alloc(), 1)?;
+    let second = reference(rt.alloc(), 2)?;
+    assert!(rt; first.clone()?.is_same(&first));
+    assert!(rt; !first.is_same(&second));
+    let recorded = Recorded {
+        reference: first.clone()?,
+        extents: Volumes::from_vec(vec![in rt.alloc(); volume(rt.alloc())?]?),
+    };
+    assert!(rt; recorded.clone()?.is_same(&recorded));
+    let ticket = Ticket {
+        id: ticket_id(1, 1),
+        manager: Name::of(rt.alloc(), b"uss1")?,
+        area: volume(rt.alloc())?,
+        base: Base::of(rt.alloc(), b"http://uss1.test")?,
+        index: 3,
+    };
+    assert!(rt; ticket.clone()?.is_same(&ticket));
+    let subscriber = Subscriber {
+        base: Base::of(rt.alloc(), b"http://uss1.test")?,
+        ticket: ticket_id(1, 1),
+        index: 3,
+    };
+    assert!(rt; subscriber.clone()?.is_same(&subscriber));
+    let landing = Landing {
+        ovn: Ovn::of(rt.alloc(), b"ovn-0000000000000002")?,
+        manager: Name::of(rt.alloc(), b"uss1")?,
+        tag: 2,
+        flight: flight_id(1, 1),
+        previous: Some(Ovn::of(rt.alloc(), b"ovn-0000000000000001")?),
+        ticket: ticket_id(1, 2),
+    };
+    assert!(rt; landing.clone()?.is_same(&landing));
+    let reply = DssReply::Landed {
+        reference: first,
+        subscribers: Sequence::from_vec(vec![in rt.alloc(); subscriber]?),
+    };
+    assert!(rt; reply.clone()? == reply);
+    Ok(())
+}
+
+#[test]
+fn lists_give_back_their_items(rt: HostRuntime) -> Result<(), Fail> {
+    let mut list = References::new(rt.alloc());
+    assert!(rt; list.is_empty());
+    list.push(reference(rt.alloc(), 1)?)
+        .map_err(AllocError::from)?;
+    list.push(reference(rt.alloc(), 2)?)
+        .map_err(AllocError::from)?;
+    assert_eq!(rt; list.len(), 2);
+    let copy = list.clone()?;
+    assert!(rt; copy == list);
+    assert_eq!(rt; list.pop().map(|r| r.version), Some(2));
+    assert!(rt; copy != list);
+    let items = list.into_vec();
+    assert_eq!(rt; items.len(), 1);
+    let mut ovns = Ovns::from_vec(vec![in rt.alloc();
+        Ovn::of(rt.alloc(), b"ovn-0000000000000001")?,
+    ]?);
+    assert!(rt; ovns.as_slice() == ovns.clone()?.as_slice());
+    assert!(rt; ovns.pop().is_some());
+    assert!(rt; ovns.pop().is_none());
     Ok(())
 }

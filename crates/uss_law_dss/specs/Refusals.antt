@@ -12,6 +12,7 @@ use Rattle.uss_intent.specs.declared.calls.DssAsk.{DssAsk}
 use Rattle.uss_intent.specs.declared.calls.DssAsk.TheVariants.{Query, Get, Put, Remove, TicketPut, TicketGet, TicketRemove}
 use Rattle.uss_intent.specs.declared.calls.DssRefusal.{DssRefusal}
 use Rattle.uss_intent.specs.declared.calls.DssRefusal.TheVariants.{BadCall, NotYours, Exists, Retired, Absent, StaleOvn, NoTicket, NotCovered, MissingKey, TicketInUse, Full}
+use Rattle.uss_intent.specs.Refusals.{refusal_number}
 use Rattle.uss_intent.specs.Same.{same_text}
 use Rattle.uss_law_dss.specs.Service.{Service, has_number, recorded_of, ticket_of, has_ovn, is_keyed, shown_to, relevant, lacking, lies_in}
 
@@ -131,3 +132,8 @@ first_of (t ∷ ts) = if t.0 then Some t.1 else first_of ts
 -- why a call is refused, if it is
 abbrev pub refusal_of : Service → List ℕ → DssAsk → Option DssRefusal
 refusal_of s client ask = first_of (tests_of s client ask)
+
+-- the numbers of a call's tests don't fall
+abbrev pub does_not_fall : ℕ → List (Bool × DssRefusal) → Bool
+does_not_fall n [] = true
+does_not_fall n (t ∷ ts) = nat_le n (refusal_number t.1) && does_not_fall (refusal_number t.1) ts

@@ -14,7 +14,7 @@ ghost use Rattle.uss_intent.specs.declared.records.Ticket.{Ticket};
 ghost use Rattle.uss_intent.specs.declared.records.Recorded.{Recorded};
 ghost use Rattle.uss_intent.specs.Texts.{IsOvn};
 ghost use Rattle.uss_law_dss.specs.Lists.{Has};
-ghost use Rattle.uss_law_dss.specs.Refusals.{refusal_of};
+ghost use Rattle.uss_law_dss.specs.Refusals.{refusal_of, tests_of, does_not_fall};
 ghost use Rattle.uss_law_dss.specs.Service.{Service, empty, ovn_of, relevant};
 ghost use Rattle.uss_law_dss.specs.Step.{service_step, replies_to, state_after, found_in, is_told};
 ghost use Rattle.uss_law_dss.specs.Effects.{Effect};
@@ -46,6 +46,11 @@ pub fn sharing_is_of_points()
 /// the call's tests said.
 pub fn effects()
     ensures { (s : Service) (client : List ℕ) (ask : DssAsk) → Effect s client ask (service_step s client ask) }
+{}
+
+/// The tests of a call stand in the order of the refusals' numbers, so the refusal with the least number is given.
+pub fn refusals_come_in_order()
+    ensures { (s : Service) (client : List ℕ) (ask : DssAsk) → does_not_fall 201 (tests_of s client ask) ≡ true }
 {}
 
 /// A refused call changes nothing.

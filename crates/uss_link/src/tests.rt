@@ -72,7 +72,10 @@ fn adapters_pass_bytes_on(rt: HostRuntime) -> Result<(), Fail> {
     let mut source = ReaderSource::new(b"hello".as_slice());
     let mut sink = WriterSink::new(Vec::new(alloc));
     match read_whole(alloc, &mut source, 9) {
-        Ok(found) => assert_eq!(rt; write_all(&mut sink, found.as_slice()), Ok(())),
+        Ok(found) => {
+            assert_eq!(rt; found.as_slice(), b"hello".as_slice());
+            assert_eq!(rt; write_all(&mut sink, found.as_slice()), Ok(()));
+        }
         Err(refusal) => panic!(rt; "{refusal:?}"),
     }
     Ok(())

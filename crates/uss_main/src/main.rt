@@ -8,13 +8,19 @@ use uss_link::{ReaderSource, WriterSink};
 
 /// What is told on standard error where the words are no command.
 const USAGE: &str = "usage: uss conflict < SCRIPT
+       uss discover < SCRIPT
 
 conflict  compares two lists of volumes, and prints the least pair of places
           that shares a point of airspace and time, or `clear`
+          lines: a VOLUME, b VOLUME
+discover  carries out calls of a discovery service that begins empty, and
+          prints the replies; C is the client's name
+          lines: C query VOLUME, C get FLIGHT, C remove FLIGHT OVN,
+          C put FLIGHT OVN STATE BASE TICKET key K O1 .. OK vols M VOLUMES,
+          C tput TICKET BASE VOLUME, C tget TICKET, C tremove TICKET VERSION
 
-Each line of SCRIPT is `a VOLUME` or `b VOLUME`. A volume is
-  rect X1 Y1 X2 Y2 LOW HIGH START END
-  poly N X1 Y1 .. XN YN LOW HIGH START END
+VOLUME is rect X1 Y1 X2 Y2 LOW HIGH START END
+       or poly N X1 Y1 .. XN YN LOW HIGH START END
 with coordinates in 1e-7 degrees, altitudes in millimetres and instants in
 nanoseconds since 1970-01-01T00:00:00Z.";
 

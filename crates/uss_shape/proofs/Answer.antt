@@ -1,16 +1,13 @@
 use Rattle.uss_shape.proofs.Ring.{lin}
-use Rattle.uss_shape.specs.Words.{EdgesMeet, SomeEdge, Straddle, Ranges, Touches, InR, odd}
-use Rattle.std.proofs.Common.{◌≡◌, ◌↔◌, ◌⊎◌, inl, inr, Bool, true, false, IsTrue, ◌&&◌, ◌||◌, refl, ap, sym, ◌∙◌, arith, List, [], ◌∷◌, ℤ, pos, ◌*ℤ◌}
-use Rattle.std.specs.Prelude.{◌≤ℤ◌, ◌<ℤ◌, int_le}
+use Rattle.uss_shape.specs.Words.{SomeEdge, Straddle, Ranges, InR, odd}
+use Rattle.std.proofs.Common.{◌≡◌, ◌↔◌, ◌⊎◌, inl, inr, Bool, true, false, IsTrue, ◌&&◌, ◌||◌, refl, sym, List, [], ◌∷◌, ℤ, pos, ◌*ℤ◌}
 use Rattle.std.specs.List.{list_any}
-use borrow.Author.Differences.{ints}
 use Rattle.uss_shape.specs.declared.Place.{Place}
 use Rattle.uss_shape.specs.Plane.{cross, Edge, edge, edges, fine, fine_edge, is_above, IsOn, Between, Common, Meet, InRegion}
 use Rattle.uss_shape.specs.Overlap.{ranges_touch, is_straddling, edges_touch, region_holds, region_holds_first, outlines_meet}
 use Rattle.uss_shape.proofs.Sides.{le_is}
 use Rattle.uss_shape.proofs.Meeting.{at_place, on_left, common_of_touches}
 use Rattle.uss_shape.proofs.Converse.{touches_of_common}
-use Rattle.uss_shape.proofs.Lowest.{map_some}
 use Rattle.uss_shape.proofs.Decide.{coarse_on}
 use Rattle.uss_shape.proofs.Forms.{in_r, in_region}
 use Rattle.uss_shape.proofs.Same.{place_eq}

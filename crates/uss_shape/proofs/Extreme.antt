@@ -1,14 +1,14 @@
 use Rattle.uss_shape.proofs.Ring.{lin, linc}
-use Rattle.std.proofs.lemmas.Int.{by_lt_z, clamps}
-use Rattle.std.proofs.Common.{◌≡◌, ℕ, suc, ◌<◌, ◌⊎◌, inl, inr, refl, sym, ◌∙◌, arith, List, [], ◌∷◌, length, get_or, ℤ}
+use Rattle.std.proofs.lemmas.Int.{by_lt_z}
+use Rattle.std.proofs.Common.{◌≡◌, suc, ◌<◌, ◌⊎◌, inl, inr, refl, sym, ◌∙◌, arith, List, [], ◌∷◌, length, get_or, ℤ}
 use Rattle.std.specs.Prelude.{◌≤ℤ◌, All, Any}
 use Rattle.std.specs.Int.{int_min, int_max}
 use Rattle.std.specs.List.{fold}
 use Rattle.std.proofs.lemmas.List.Elements.{All-nil, All-cons}
-use borrow.Author.Differences.{ints}
 use Rattle.uss_shape.specs.declared.Place.{Place}
 use Rattle.uss_shape.specs.declared.Rect.{Rect}
-use Rattle.uss_shape.specs.Shape.{IsLeast, IsGreatest, IsOutline, IsBounds, grown, bounds_of}
+use Rattle.uss_shape.specs.Words.{IsWithin, Covers}
+use Rattle.uss_shape.specs.Shape.{IsLeast, IsGreatest, IsOutline, IsBounds, grown, spot, bounds_of}
 
 pub any_here : {A : Type 0} (P : A → Type 0) (x : A) (xs : List A) → P x → Any P (x ∷ xs)
 any_here P x xs h = (0, x, omega arith, refl, h)
@@ -105,9 +105,6 @@ y2_is : (r : Rect) (vs : List Place) → (fold grown r vs).y2 ≡ greatest_from 
 y2_is r [] = refl
 y2_is r (v ∷ vs) = y2_is (grown r v) vs
 
-abbrev pub spot : Place → Rect
-spot v = record { x1 = v.x; y1 = v.y; x2 = v.x; y2 = v.y }
-
 -- the function gives the least and the greatest coordinates
 pub bounds_are : (vs : List Place) → 0 < length vs → IsBounds vs (bounds_of vs)
 unfolding bounds_of
@@ -122,6 +119,27 @@ bounds_are (v ∷ vs) l = record {
 -- the bounds that an outline keeps
 pub kept_bounds : (vs : List Place) (r : Rect) → IsOutline vs → r ≡ bounds_of vs → IsBounds vs r
 kept_bounds vs r o e = rw e (bounds_are vs (omega (arith, o.enough)))
+
+-- ---- a rectangle that grew over some places covers them
+grown_keeps : (r : Rect) (v p : Place) → IsWithin r p → IsWithin (grown r v) p
+grown_keeps r v p h = (omega linc, omega linc, omega linc, omega linc)
+
+grown_has : (r : Rect) (v : Place) → IsWithin (grown r v) v
+grown_has r v = (omega linc, omega linc, omega linc, omega linc)
+
+fold_keeps : (r : Rect) (vs : List Place) (p : Place) → IsWithin r p → IsWithin (fold grown r vs) p
+fold_keeps r [] p h = h
+fold_keeps r (v ∷ vs) p h = fold_keeps (grown r v) vs p (grown_keeps r v p h)
+
+fold_covers : (r : Rect) (vs : List Place) → All (IsWithin (fold grown r vs)) vs
+fold_covers r [] = All-nil (IsWithin r)
+fold_covers r (v ∷ vs) = All-cons (IsWithin (fold grown (grown r v) vs)) v vs (fold_keeps (grown r v) vs v (grown_has r v)) (fold_covers (grown r v) vs)
+
+pub grown_covers : (p : Place) (vs : List Place) → Covers (fold grown (spot p) vs) p vs
+grown_covers p vs = record { at_first = fold_keeps (spot p) vs p (omega lin, omega lin, omega lin, omega lin); at_rest = fold_covers (spot p) vs }
+
+pub bounds_cover : (vs : List Place) (r : Rect) → IsBounds vs r → All (IsWithin r) vs
+bounds_cover vs r b = λ k d h. (b.left.bound k d h, b.right.bound k d h, b.low.bound k d h, b.high.bound k d h)
 
 pub bounds_is : (vs : List Place) (d : Place) → 0 < length vs → fold grown (spot (get_or vs 0 d)) vs ≡ bounds_of vs
 unfolding bounds_of

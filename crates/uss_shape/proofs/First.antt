@@ -1,8 +1,7 @@
-use Rattle.uss_shape.specs.Words.{Caught, EdgesMeet, InR, SomeEdge, odd}
-use Rattle.std.proofs.Common.{◌≡◌, ℕ, ◌<◌, ◌%◌, ◌↔◌, ◌⊎◌, inl, inr, Bool, true, cond, refl, ap, sym, ◌∙◌, arith, List, [], ◌∷◌, length, get_or}
+use Rattle.uss_shape.specs.Words.{Caught, SomeCommon, InR, SomeEdge, odd}
+use Rattle.std.proofs.Common.{◌≡◌, ◌<◌, ◌↔◌, ◌⊎◌, inl, inr, Bool, true, cond, ap, sym, ◌∙◌, arith, List, [], ◌∷◌, length, get_or}
 use Rattle.uss_shape.specs.declared.Place.{Place}
-use Rattle.std.specs.List.{Any, count_by}
-use Rattle.uss_shape.specs.Plane.{Edge, edge, edges, edges_from, last_of, is_above, parity_above, IsOn, InRegion, Common, Meet, ParityIsKept}
+use Rattle.uss_shape.specs.Plane.{Edge, edge, edges, edges_from, last_of, is_above, IsOn, InRegion, Common, Meet, ParityIsKept}
 use Rattle.uss_shape.proofs.Closing.{AllEdges, map_edges}
 use Rattle.uss_shape.proofs.Touch.{swapped_common}
 use Rattle.uss_shape.proofs.Meeting.{at_place, on_left, on_right}
@@ -63,7 +62,7 @@ swap_some R es [] s = absurd s
 swap_some R es (f ∷ fs) (inl h) = map_some (R f) (λ e. SomeEdge (λ g. R g e) (f ∷ fs)) (λ e k. inl k) es h
 swap_some R es (f ∷ fs) (inr s) = map_some (λ e. SomeEdge (λ g. R g e) fs) (λ e. SomeEdge (λ g. R g e) (f ∷ fs)) (λ e k. inr k) es (swap_some R es fs s)
 
-swap_edges : (us vs : List Place) → EdgesMeet us vs → EdgesMeet vs us
+swap_edges : (us vs : List Place) → SomeCommon (edges us) (edges vs) → SomeCommon (edges vs) (edges us)
 swap_edges us vs s =
     map_some (λ e. SomeEdge (λ f. Common f e) (edges us)) (λ e. SomeEdge (Common e) (edges us))
     (λ e k. map_some (λ f. Common f e) (Common e) (λ f c. swapped_common f e c) (edges us) k)
@@ -81,7 +80,7 @@ dec_some e (f ∷ fs) = elim (dec_common e f) [
 
 -- what a test finds: two edges that touch, or a first vertex that is in the other region
 abbrev pub Found : List Place → List Place → Type 0
-Found us vs = EdgesMeet us vs ⊎ (FirstIn vs us ⊎ FirstIn us vs)
+Found us vs = SomeCommon (edges us) (edges vs) ⊎ (FirstIn vs us ⊎ FirstIn us vs)
 
 found_of_bound : (us vs : List Place) → Bound us vs → Found us vs
 found_of_bound us vs b = elim (dec_edges (λ e. SomeEdge (Common e) (edges vs)) (λ e. dec_some e (edges vs)) (edges us)) [

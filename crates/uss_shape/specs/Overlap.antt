@@ -1,7 +1,7 @@
 -- Tests that compute: whether a place is in a region, and whether two regions have a point in common.
 -- The contracts of `Outline::holds` and `Outline::meets` say that these tests answer the questions of Plane, `InRegion` and
 -- `Meet`, for every list of vertices.
-use Rattle.std.specs.Prelude.{ℤ, pos, neg_ℤ, Bool, false, not, ◌&&◌, ◌||◌, int_lt, int_le, List, [], ◌∷◌}
+use Rattle.std.specs.Prelude.{ℤ, pos, Bool, false, ◌&&◌, ◌||◌, int_le, List, [], ◌∷◌}
 use Rattle.std.specs.List.{list_any}
 use Rattle.std.specs.Int.{int_min, int_max}
 use Rattle.uss_shape.specs.declared.Place.{Place}

@@ -15,11 +15,11 @@ use Rattle.std.proofs.lemmas.Str.Parse.{without_leading_plus_none, digit_from_va
 use Rattle.uss_text.specs.Numbers.{is_natural, natural_of, without_minus, is_integer, integer_of}
 use Rattle.uss_text.specs.Reading.{natural_below, integer_within, is_signed_64}
 
-and_left : (a b : Bool) → (a && b) ≡ true → a ≡ true
+pub and_left : (a b : Bool) → (a && b) ≡ true → a ≡ true
 and_left true b h = refl
 and_left false b h = h
 
-and_right : (a b : Bool) → (a && b) ≡ true → b ≡ true
+pub and_right : (a b : Bool) → (a && b) ≡ true → b ≡ true
 and_right true b h = h
 and_right false b h = cc
 
@@ -49,7 +49,7 @@ digits_ascii (c ∷ cs) digits zero = let r : IsInRange 48 57 c = digit_from_val
 digits_ascii (c ∷ cs) digits (suc i) = digits_ascii cs digits.1 i
 
 -- a word that is a number has no `+` in front
-no_plus : (w : List ℕ) → AllDigits 10 w → get_or w 0 0 ≢ 43
+pub no_plus : (w : List ℕ) → AllDigits 10 w → get_or w 0 0 ≢ 43
 no_plus [] digits = λ e. omega arith
 no_plus (c ∷ cs) digits = λ e. (let r : IsInRange 48 57 c = digit_from_value c digits.0 in omega arith)
 

@@ -1,5 +1,10 @@
 pub mod Cutting
 pub mod Digits
+pub mod Decimal
+pub mod Signed
+pub mod Many
 pub mod Places
 pub mod Made
 pub mod Script
+pub mod Each
+pub mod Replying

@@ -1,10 +1,10 @@
 -- The script of `uss conflict`: each line is `a VOLUME` or `b VOLUME`. This project's own.
-use Rattle.std.specs.Prelude.{◌≡◌, ◌≢◌, ℕ, ◌+◌, List, [], ◌∷◌, ◌++◌, Result, Ok, Err, nat_lt, length, bytes_eq, codes, if◌then◌else◌}
+use Rattle.std.specs.Prelude.{ℕ, ◌+◌, List, [], ◌∷◌, ◌++◌, Result, Ok, Err, nat_lt, length, bytes_eq, codes, if◌then◌else◌}
 use Rattle.uss_vol4.specs.Volume.{Volume4D}
 use Rattle.uss_text.specs.declared.refusal.WordRefusal.{WordRefusal}
 use Rattle.uss_text.specs.declared.refusal.WordRefusal.TheVariants.{BadLine}
 use Rattle.uss_text.specs.declared.refusal.ScriptRefusal.{ScriptRefusal}
-use Rattle.uss_text.specs.declared.refusal.ScriptRefusal.TheVariants.{TextTooLarge, Memory}
+use Rattle.uss_text.specs.declared.refusal.ScriptRefusal.TheVariants.{TextTooLarge}
 use Rattle.uss_text.specs.declared.conflict.Placed.{Placed}
 use Rattle.uss_text.specs.declared.conflict.Side.{Side}
 use Rattle.uss_text.specs.declared.conflict.Side.TheVariants.{A, B}
@@ -51,11 +51,6 @@ behind_side B v ls = lists ls.a (ls.b ++ v ∷ [])
 
 abbrev pub with_last : Lists → Placed → Lists
 with_last ls placed = behind_side placed.side placed.volume ls
-
--- What a function returned, seen by view, is what reading gives, unless memory was wanting.
-abbrev pub ScriptGives : {X Y : Type 0} → (X → Y) → Result X ScriptRefusal → Result Y ScriptRefusal → Type 0
-ScriptGives view (Ok x) given = given ≡ Ok (view x)
-ScriptGives view (Err e) given = e ≢ Memory → given ≡ Err e
 
 -- the lists of the lines behind so many others, or the refusal of the first of them that is refused
 unfoldable pub lists_behind : ℕ → List (List ℕ) → Result Lists ScriptRefusal

@@ -4,3 +4,6 @@ pub mod Refusals
 pub mod Reading
 pub mod Volumes
 pub mod Conflict
+pub mod Intents
+pub mod Discover
+pub mod Replies

@@ -1,8 +1,11 @@
 -- How words are read, one after another: what each reader gives is its value and the words that are left, or why
 -- the first refused word is refused. This project's own.
-use Rattle.std.specs.Prelude.{◌≡◌, ◌≢◌, ℕ, List, [], ◌∷◌, Bool, Option, Some, None, Result, Ok, Err, ℤ, pos, negsuc, nat_lt, if◌then◌else◌}
+use Rattle.std.specs.Prelude.{◌≡◌, ◌≢◌, ℕ, zero, suc, ◌+◌, List, [], ◌∷◌, Bool, Option, Some, None, Result, Ok, Err, ℤ, pos, negsuc, nat_lt, if◌then◌else◌}
 use Rattle.uss_text.specs.declared.refusal.WordRefusal.{WordRefusal}
 use Rattle.uss_text.specs.declared.refusal.WordRefusal.TheVariants.{BadLine, BadNumber, Memory}
+use Rattle.uss_text.specs.declared.refusal.ScriptRefusal.{ScriptRefusal}
+use Rattle.uss_text.specs.declared.refusal.ScriptRefusal.TheVariants.{Memory as NoMemory}
+use Rattle.uss_text.specs.Refusals.{at_line}
 use Rattle.uss_text.specs.Numbers.{natural_of, integer_of}
 
 infixl 10 ◌>>=◌
@@ -39,6 +42,11 @@ abbrev pub LineGives : {X : Type 0} → Result X WordRefusal → Result X WordRe
 LineGives (Ok x) given = given ≡ Ok x
 LineGives (Err e) given = e ≢ Memory → given ≡ Err e
 
+-- the same of what reading a whole script gives
+abbrev pub ScriptGives : {X Y : Type 0} → (X → Y) → Result X ScriptRefusal → Result Y ScriptRefusal → Type 0
+ScriptGives view (Ok x) given = given ≡ Ok (view x)
+ScriptGives view (Err e) given = e ≢ NoMemory → given ≡ Err e
+
 -- a word that isn't empty: a line that ends too early, and an empty word, are refused
 unfoldable pub word_at : Reader (List ℕ)
 word_at [] = Err BadLine
@@ -74,7 +82,30 @@ count_at ws = do
   word ← word_at ws
   number_or_bad (natural_below 4294967296 (natural_of word.value)) word.rest
 
+-- what the next word says
+abbrev pub by_word : {A : Type 0} → (List ℕ → Result A WordRefusal) → Reader A
+by_word value_of ws = do
+  word ← word_at ws
+  value ← value_of word.value
+  Ok (read value word.rest)
+
+-- so many values, one behind another
+unfoldable pub many_at : {A : Type 0} → Reader A → ℕ → Reader (List A)
+many_at reader zero ws = Ok (read [] ws)
+many_at reader (suc n) ws = do
+  first ← reader ws
+  others ← many_at reader n first.rest
+  Ok (read (first.value ∷ others.value) others.rest)
+
 -- no word is left
 unfoldable pub end_at : Words → Result (Unit {0}) WordRefusal
 end_at [] = Ok tt
 end_at (w ∷ ws) = Err BadLine
+
+-- what the lines say that stand behind so many others, or the refusal of the first of them that is refused
+unfoldable pub each_behind : {A : Type 0} → (List ℕ → Result A WordRefusal) → ℕ → List (List ℕ) → Result (List A) ScriptRefusal
+each_behind line_of n [] = Ok []
+each_behind line_of n (line ∷ lines) = do
+  first ← at_line (n + 1) (line_of line)
+  others ← each_behind line_of (n + 1) lines
+  Ok (first ∷ others)

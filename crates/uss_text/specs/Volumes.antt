@@ -1,7 +1,7 @@
 -- The volumes of a script: `rect X1 Y1 X2 Y2` or `poly N X1 Y1 .. XN YN`, then `LOW HIGH START END`. Numbers are
 -- 1e-7 degrees, millimetres and nanoseconds since 1970. The refusals of the outline, and then of the volume, come
 -- after the last word of the volume. This project's own.
-use Rattle.std.specs.Prelude.{ℕ, zero, suc, List, [], ◌∷◌, Bool, not, Result, Ok, Err, ℤ, pos, neg_ℤ, nat_lt, int_lt, int_le, ◌&&◌, length, bytes_eq, codes, if◌then◌else◌}
+use Rattle.std.specs.Prelude.{ℕ, take, List, [], ◌∷◌, Bool, not, Result, Ok, Err, ℤ, pos, neg_ℤ, nat_lt, int_lt, int_le, ◌&&◌, length, bytes_eq, codes, if◌then◌else◌}
 use Rattle.std.specs.List.{list_all}
 use Rattle.uss_shape.specs.declared.Place.{Place}
 use Rattle.uss_shape.specs.Shape.{corners}
@@ -12,7 +12,7 @@ use Rattle.uss_vol4.specs.declared.VolRefusal.{VolRefusal}
 use Rattle.uss_vol4.specs.declared.VolRefusal.TheVariants as Vol
 use Rattle.uss_text.specs.declared.refusal.WordRefusal.{WordRefusal}
 use Rattle.uss_text.specs.declared.refusal.WordRefusal.TheVariants.{BadLine, TooFewVertices, TooManyVertices, OutOfRange, LowAboveHigh, StartAfterEnd, AltitudeRange, TimeRange, Memory}
-use Rattle.uss_text.specs.Reading.{◌>>=◌, read, Reader, word_at, integer_at, count_at}
+use Rattle.uss_text.specs.Reading.{◌>>=◌, Read, read, Reader, word_at, integer_at, count_at, many_at}
 
 -- the two coordinates of a place
 unfoldable pub place_at : Reader Place
@@ -21,18 +21,10 @@ place_at ws = do
   y ← integer_at x.rest
   Ok (read (record { x = x.value; y = y.value }) y.rest)
 
--- so many places
-unfoldable pub places_at : ℕ → Reader (List Place)
-places_at zero ws = Ok (read [] ws)
-places_at (suc n) ws = do
-  first ← place_at ws
-  others ← places_at n first.rest
-  Ok (read (first.value ∷ others.value) others.rest)
-
 unfoldable pub poly_at : Reader (List Place)
 poly_at ws = do
   count ← count_at ws
-  places_at count.value count.rest
+  many_at place_at count.value count.rest
 
 unfoldable pub rect_at : Reader (List Place)
 rect_at ws = do
@@ -93,12 +85,33 @@ volume_of places low high start end = first_refused
     ∷ [])
     (record { outline = places; low = low; high = high; start = start; end = end })
 
-unfoldable pub volume_at : Reader Volume4D
-volume_at ws = do
-  outline ← vertices_at ws
-  low ← integer_at outline.rest
+-- the volume of these vertices and of the four numbers behind them
+unfoldable pub volume_behind : List Place → Reader Volume4D
+volume_behind vertices ws = do
+  low ← integer_at ws
   high ← integer_at low.rest
   start ← integer_at high.rest
   end ← integer_at start.rest
-  volume ← volume_of outline.value low.value high.value start.value end.value
+  volume ← volume_of vertices low.value high.value start.value end.value
   Ok (read volume end.rest)
+
+unfoldable pub volume_at : Reader Volume4D
+volume_at ws = do
+  outline ← vertices_at ws
+  volume_behind outline.value outline.rest
+
+-- ---- What a reader may keep: 1,001 vertices are enough to be refused, so the volume is the same.
+
+-- at most the first 1,001
+abbrev pub kept : Result (Read (List Place)) WordRefusal → Result (Read (List Place)) WordRefusal
+kept (Ok vertices) = Ok (read (take 1001 vertices.value) vertices.rest)
+kept (Err e) = Err e
+
+abbrev pub kept_vertices_of : List ℕ → Reader (List Place)
+kept_vertices_of kind ws = if bytes_eq kind (codes "rect") then rect_at ws
+    else (if bytes_eq kind (codes "poly") then kept (poly_at ws) else Err BadLine)
+
+unfoldable pub kept_vertices_at : Reader (List Place)
+kept_vertices_at ws = do
+  kind ← word_at ws
+  kept_vertices_of kind.value kind.rest

@@ -1,12 +1,13 @@
 ghost use Rattle.std.specs.Prelude.{◌≡◌, ◌<◌, ◌^◌, length, OnOk, IfErr};
-ghost use Rattle.uss_text.specs.Reading.{Gives, LineGives};
+ghost use Rattle.uss_text.specs.Reading.{Gives, LineGives, ScriptGives};
 ghost use Rattle.uss_text.specs.Conflict as spec;
 
-use crate::lines::Lines;
+use crate::lines::{Lines, MOST_BYTES};
 use crate::refusal::{ScriptRefusal, WordRefusal};
 use crate::volumes::volume;
 use crate::words::Words;
 use std::alloc::Global;
+use uss_intent::Volumes;
 use uss_vol4::Volume4;
 
 /// The list that a line adds to.
@@ -19,14 +20,14 @@ enum Side {
 /// The two lists of volumes that `uss conflict` compares, each in the order of its lines.
 #[derive(Drop)]
 pub struct ConflictScript {
-    pub a: Vec<Volume4>,
-    pub b: Vec<Volume4>,
+    pub a: Volumes,
+    pub b: Volumes,
 }
 
 impl ConflictScript {
     /// Adds a volume to its list.
     fn add(&mut self, placed: Placed) -> Result<(), ScriptRefusal>
-        ensures ok { OnOk result (spec.lists self.new.a.items self.new.b.items ≡ spec.with_last (spec.lists self.old.a.items self.old.b.items) placed) }
+        ensures ok { OnOk result (spec.lists self.new.a self.new.b ≡ spec.with_last (spec.lists self.old.a self.old.b) placed) }
         ensures memory { IfErr result (λ e. e ≡ ScriptRefusal.Memory) }
     {
         match placed.side {
@@ -36,9 +37,6 @@ impl ConflictScript {
         Ok(())
     }
 }
-
-/// The most bytes of a script: 64 MiB.
-const MOST: usize = 67_108_864;
 
 /// The list that the line adds to.
 #[tactic(auto, unfolding(crate::specs::Conflict::side_at))]
@@ -76,9 +74,9 @@ fn read_line(alloc: Global, line: &[u8]) -> Result<Placed, WordRefusal>
 /// Reads the script of `uss conflict`: each line is `a VOLUME` or `b VOLUME`. A text of more than 64 MiB is
 /// refused first, and else the first refused line decides, and in it the first refused word.
 pub fn read_conflict(alloc: Global, text: &[u8]) -> Result<ConflictScript, ScriptRefusal>
-    ensures { spec.ScriptGives (λ s. spec.lists s.a.items s.b.items) result (spec.conflict_script text.now) }
+    ensures { ScriptGives (λ s. spec.lists s.a s.b) result (spec.conflict_script text.now) }
 {
-    if text.len() > MOST {
+    if text.len() > MOST_BYTES {
         return Err(ScriptRefusal::TextTooLarge);
     }
     read_lines(alloc, Lines::of(text))
@@ -86,11 +84,11 @@ pub fn read_conflict(alloc: Global, text: &[u8]) -> Result<ConflictScript, Scrip
 
 fn read_lines(alloc: Global, mut lines: Lines) -> Result<ConflictScript, ScriptRefusal>
     requires { length lines < 2 ^ 64 }
-    ensures { spec.ScriptGives (λ s. spec.lists s.a.items s.b.items) result (spec.lists_behind 0 lines.entry) }
+    ensures { ScriptGives (λ s. spec.lists s.a s.b) result (spec.lists_behind 0 lines.entry) }
 {
     let mut script = ConflictScript {
-        a: Vec::new(alloc),
-        b: Vec::new(alloc),
+        a: Volumes::new(alloc),
+        b: Volumes::new(alloc),
     };
     let mut number = 0u64;
     while let Some(line) = lines.next_line() {

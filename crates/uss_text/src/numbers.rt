@@ -1,8 +1,9 @@
-ghost use Rattle.std.specs.Prelude.{◌≡◌, ◌^◌};
+ghost use Rattle.std.specs.Prelude.{◌≡◌, ◌<◌, ◌^◌, ℕ, ℤ, Some, IfSome, IsTrue};
+ghost use Rattle.std.specs.Fmt.{decimal, signed_decimal};
 ghost use Rattle.std.specs.List.{list_all};
 ghost use Rattle.std.specs.Char.{is_ascii_digit};
 ghost use Rattle.uss_text.specs.Numbers as spec;
-ghost use Rattle.uss_text.specs.Reading.{natural_below, integer_within};
+ghost use Rattle.uss_text.specs.Reading.{natural_below, integer_within, is_signed_64};
 
 fn are_digits(word: &[u8]) -> bool
     ensures { result ≡ list_all is_ascii_digit word.now }
@@ -26,8 +27,7 @@ fn is_natural(word: &[u8]) -> bool
     are_digits(word)
 }
 
-/// The number that the word writes, where it is one below 2 ^ 64.
-pub fn natural(word: &[u8]) -> Option<u64>
+fn parsed_natural(word: &[u8]) -> Option<u64>
     ensures { result ≡ natural_below (2 ^ 64) (spec.natural_of word.now) }
 {
     if !is_natural(word) {
@@ -37,6 +37,16 @@ pub fn natural(word: &[u8]) -> Option<u64>
         Ok(text) => text.parse::<u64>().ok(),
         Err(_) => None,
     }
+}
+
+/// The number whose decimal text the word is, without a sign or a leading zero. For the words of scripts and of
+/// the command line.
+pub fn natural(word: &[u8]) -> Option<u64>
+    ensures value { result ≡ natural_below (2 ^ 64) (spec.natural_of word.now) }
+    ensures found { IfSome result (λ n. word.now ≡ decimal n) }
+    ensures every { (n : ℕ) → n < 2 ^ 64 → word.now ≡ decimal n → result ≡ Some n }
+{
+    parsed_natural(word)
 }
 
 /// The word behind a `-` in front, if there is one.
@@ -59,8 +69,7 @@ fn is_integer(word: &[u8]) -> bool
     word != b"-0".as_slice()
 }
 
-/// The number that the word writes, where it is a signed one of 64 bits.
-pub fn integer(word: &[u8]) -> Option<i64>
+fn parsed_integer(word: &[u8]) -> Option<i64>
     ensures { result ≡ integer_within (spec.integer_of word.now) }
 {
     if !is_integer(word) {
@@ -70,4 +79,13 @@ pub fn integer(word: &[u8]) -> Option<i64>
         Ok(text) => text.parse::<i64>().ok(),
         Err(_) => None,
     }
+}
+
+/// The number whose decimal text the word is, with `-` in front of one below 0. For the words of scripts.
+pub fn integer(word: &[u8]) -> Option<i64>
+    ensures value { result ≡ integer_within (spec.integer_of word.now) }
+    ensures found { IfSome result (λ z. word.now ≡ signed_decimal z) }
+    ensures every { (z : ℤ) → IsTrue (is_signed_64 z) → word.now ≡ signed_decimal z → result ≡ Some z }
+{
+    parsed_integer(word)
 }

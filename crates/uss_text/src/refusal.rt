@@ -1,8 +1,9 @@
 ghost use Rattle.std.specs.Prelude.{◌≡◌};
 ghost use Rattle.uss_text.specs.Refusals as spec;
 
-use std::alloc::AllocFailed;
+use std::alloc::{AllocError, AllocFailed};
 use std::fmt;
+use uss_intent::IntentRefusal;
 
 /// Why a word of a line is refused.
 #[derive(Clone, Copy, Debug, PartialEq, Eq)]
@@ -25,6 +26,12 @@ pub enum WordRefusal {
     AltitudeRange,
     /// 114: an instant outside its range.
     TimeRange,
+    /// 128: a word that is due to be a client's name and isn't one.
+    BadName,
+    /// 129: a word that is due to be a base URL and isn't one.
+    BadBase,
+    /// 130: a word that is due to be an OVN and isn't one.
+    BadOvn,
     /// Memory is wanting.
     Memory,
 }
@@ -52,6 +59,12 @@ pub enum ScriptRefusal {
     AltitudeRange(u64),
     /// 114: an instant outside its range.
     TimeRange(u64),
+    /// 128: a word that is due to be a client's name and isn't one.
+    BadName(u64),
+    /// 129: a word that is due to be a base URL and isn't one.
+    BadBase(u64),
+    /// 130: a word that is due to be an OVN and isn't one.
+    BadOvn(u64),
     /// Memory is wanting.
     Memory,
 }
@@ -71,6 +84,9 @@ impl WordRefusal {
             WordRefusal::StartAfterEnd => ScriptRefusal::StartAfterEnd(line),
             WordRefusal::AltitudeRange => ScriptRefusal::AltitudeRange(line),
             WordRefusal::TimeRange => ScriptRefusal::TimeRange(line),
+            WordRefusal::BadName => ScriptRefusal::BadName(line),
+            WordRefusal::BadBase => ScriptRefusal::BadBase(line),
+            WordRefusal::BadOvn => ScriptRefusal::BadOvn(line),
             WordRefusal::Memory => ScriptRefusal::Memory,
         }
     }
@@ -92,6 +108,9 @@ impl ScriptRefusal {
             ScriptRefusal::StartAfterEnd(_) => 112,
             ScriptRefusal::AltitudeRange(_) => 113,
             ScriptRefusal::TimeRange(_) => 114,
+            ScriptRefusal::BadName(_) => 128,
+            ScriptRefusal::BadBase(_) => 129,
+            ScriptRefusal::BadOvn(_) => 130,
             ScriptRefusal::Memory => 0,
         }
     }
@@ -110,7 +129,49 @@ impl ScriptRefusal {
             | ScriptRefusal::LowAboveHigh(line)
             | ScriptRefusal::StartAfterEnd(line)
             | ScriptRefusal::AltitudeRange(line)
-            | ScriptRefusal::TimeRange(line) => *line,
+            | ScriptRefusal::TimeRange(line)
+            | ScriptRefusal::BadName(line)
+            | ScriptRefusal::BadBase(line)
+            | ScriptRefusal::BadOvn(line) => *line,
+        }
+    }
+}
+
+impl From<AllocError> for WordRefusal {
+    ghost use Rattle.std.specs.Prelude.{◌≡◌};
+    ghost use Rattle.uss_text.specs.declared.refusal.WordRefusal.TheVariants.{Memory};
+
+    ghost from_gives = { λ _ e. e ≡ Memory };
+
+    fn from(_: AllocError) -> WordRefusal {
+        WordRefusal::Memory
+    }
+}
+
+impl<T: Drop> From<AllocFailed<T>> for WordRefusal {
+    ghost use Rattle.std.specs.Prelude.{◌≡◌};
+    ghost use Rattle.uss_text.specs.declared.refusal.WordRefusal.TheVariants.{Memory};
+
+    ghost from_gives = { λ _ e. e ≡ Memory };
+
+    fn from(_: AllocFailed<T>) -> WordRefusal {
+        WordRefusal::Memory
+    }
+}
+
+/// The refusal of a value of an intent, as that of its word.
+impl From<IntentRefusal> for WordRefusal {
+    ghost use Rattle.std.specs.Prelude.{◌≡◌};
+    ghost use Rattle.uss_text.specs.Refusals.{intent_refusal};
+
+    ghost from_gives = { λ refusal e. e ≡ intent_refusal refusal };
+
+    fn from(refusal: IntentRefusal) -> WordRefusal {
+        match refusal {
+            IntentRefusal::BadName => WordRefusal::BadName,
+            IntentRefusal::BadBase => WordRefusal::BadBase,
+            IntentRefusal::BadOvn => WordRefusal::BadOvn,
+            IntentRefusal::Memory => WordRefusal::Memory,
         }
     }
 }

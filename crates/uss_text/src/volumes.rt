@@ -1,34 +1,12 @@
-ghost use Rattle.std.specs.Prelude.{◌≡◌, ◌≢◌, Ok, Err};
-ghost use Rattle.uss_text.specs.Reading.{Gives, GivesBy};
+ghost use Rattle.std.specs.Prelude.{◌≡◌, ◌≤◌, [], ◌∷◌, ◌++◌, length, take, OnOk, IfErr};
+ghost use Rattle.uss_text.specs.Reading.{Gives, GivesBy, many_at};
 ghost use Rattle.uss_text.specs.Volumes as spec;
 
 use crate::refusal::WordRefusal;
 use crate::words::Words;
-use std::alloc::{AllocError, AllocFailed, Global};
+use std::alloc::Global;
 use uss_shape::{Outline, Place, ShapeRefusal};
 use uss_vol4::{VolRefusal, Volume4};
-
-impl From<AllocError> for WordRefusal {
-    ghost use Rattle.std.specs.Prelude.{◌≡◌};
-    ghost use Rattle.uss_text.specs.declared.refusal.WordRefusal.TheVariants.{Memory};
-
-    ghost from_gives = { λ _ e. e ≡ Memory };
-
-    fn from(_: AllocError) -> WordRefusal {
-        WordRefusal::Memory
-    }
-}
-
-impl<T: Drop> From<AllocFailed<T>> for WordRefusal {
-    ghost use Rattle.std.specs.Prelude.{◌≡◌};
-    ghost use Rattle.uss_text.specs.declared.refusal.WordRefusal.TheVariants.{Memory};
-
-    ghost from_gives = { λ _ e. e ≡ Memory };
-
-    fn from(_: AllocFailed<T>) -> WordRefusal {
-        WordRefusal::Memory
-    }
-}
 
 /// The two coordinates of a place.
 #[tactic(auto, unfolding(crate::specs::Volumes::place_at))]
@@ -40,15 +18,30 @@ fn place(words: &mut Words) -> Result<Place, WordRefusal>
     Ok(Place { x, y })
 }
 
-/// So many places.
+/// The most vertices that are kept of a polygon: one more than an outline may have, so that it is refused.
+const KEPT: usize = 1001;
+
+/// Puts a place behind the first ones, where there is room among them.
+fn keep(places: &mut Vec<Place>, found: Place) -> Result<(), WordRefusal>
+    requires { length places.old.items ≤ KEPT }
+    ensures ok { OnOk result (places.new.items ≡ take KEPT (places.old.items ++ found ∷ [])) }
+    ensures memory { IfErr result (λ e. e ≡ WordRefusal.Memory) }
+{
+    if places.len() < KEPT {
+        places.push(found)?;
+    }
+    Ok(())
+}
+
+/// So many places, of which the first 1,001 are kept.
 fn places(alloc: Global, count: u32, words: &mut Words) -> Result<Vec<Place>, WordRefusal>
-    ensures { GivesBy (λ v. v.items) result words.new (spec.places_at count words.old) }
+    ensures { GivesBy (λ v. v.items) result words.new (spec.kept (many_at spec.place_at count words.old)) }
 {
     let mut places = Vec::new(alloc);
     let mut left = count;
     while left > 0 {
         match place(words) {
-            Ok(found) => places.push(found)?,
+            Ok(found) => keep(&mut places, found)?,
             Err(refusal) => return Err(refusal),
         }
         left -= 1;
@@ -72,18 +65,19 @@ fn rect(alloc: Global, words: &mut Words) -> Result<Vec<Place>, WordRefusal>
     ]?)
 }
 
+/// The vertices of a polygon, of which the first 1,001 are kept.
 #[tactic(auto, unfolding(crate::specs::Volumes::poly_at))]
 fn poly(alloc: Global, words: &mut Words) -> Result<Vec<Place>, WordRefusal>
-    ensures { GivesBy (λ v. v.items) result words.new (spec.poly_at words.old) }
+    ensures { GivesBy (λ v. v.items) result words.new (spec.kept (spec.poly_at words.old)) }
 {
     let count = words.count()?;
     places(alloc, count, words)
 }
 
 /// The vertices of an outline, by the word for its kind.
-#[tactic(auto, unfolding(crate::specs::Volumes::vertices_at))]
+#[tactic(auto, unfolding(crate::specs::Volumes::kept_vertices_at))]
 fn vertices(alloc: Global, words: &mut Words) -> Result<Vec<Place>, WordRefusal>
-    ensures { GivesBy (λ v. v.items) result words.new (spec.vertices_at words.old) }
+    ensures { GivesBy (λ v. v.items) result words.new (spec.kept_vertices_at words.old) }
 {
     let kind = words.word()?;
     if kind == b"rect".as_slice() {
@@ -119,11 +113,18 @@ fn volume_refusal(refusal: VolRefusal) -> WordRefusal
 }
 
 /// A volume: its refusals come after its last word.
-#[tactic(auto, unfolding(crate::specs::Volumes::volume_at))]
 pub fn volume(alloc: Global, words: &mut Words) -> Result<Volume4, WordRefusal>
     ensures { Gives result words.new (spec.volume_at words.old) }
 {
     let vertices = vertices(alloc, words)?;
+    volume_behind(vertices, words)
+}
+
+/// The volume of these vertices and of the four numbers behind them.
+#[tactic(auto, unfolding(crate::specs::Volumes::volume_behind))]
+fn volume_behind(vertices: Vec<Place>, words: &mut Words) -> Result<Volume4, WordRefusal>
+    ensures { Gives result words.new (spec.volume_behind vertices.items words.old) }
+{
     let low = words.integer()?;
     let high = words.integer()?;
     let start = words.integer()?;

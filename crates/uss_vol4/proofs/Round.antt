@@ -1,13 +1,11 @@
-use Rattle.std.proofs.Common.{◌≡◌, ℕ, zero, suc, ◌<◌, ◌⊎◌, inl, inr, refl, sym, ◌∙◌, ap, arith, List, [], ◌∷◌, ◌++◌, length, get_or, ℤ, pos}
+use Rattle.std.proofs.Common.{◌≡◌, zero, suc, ◌<◌, ◌⊎◌, inl, inr, refl, ◌∙◌, arith, List, [], ◌∷◌, ◌++◌, length, get_or, ℤ}
 use Rattle.std.specs.Prelude.{◌≤ℤ◌, All, Any, Result, Ok, Err, IfErr}
 use Rattle.std.specs.Int.{int_min, int_max}
 use Rattle.std.specs.List.{fold, flat_map}
 use Rattle.std.proofs.lemmas.Int.{ints, clamps}
 use Rattle.std.proofs.lemmas.List.Elements.{All-nil, All-cons, All-head, All-tail, All-append}
 use Rattle.uss_shape.specs.declared.Place.{Place}
-use Rattle.uss_shape.specs.declared.Rect.{Rect}
-use Rattle.uss_shape.specs.Plane.{InPlane}
-use Rattle.uss_shape.specs.Shape.{IsOutline, IsLeast, IsGreatest, IsBounds, bounds_of, corners}
+use Rattle.uss_shape.specs.Shape.{IsLeast, IsGreatest, IsBounds, bounds_of}
 use Rattle.uss_shape.proofs.Extreme.{any_here, any_more, least_from, greatest_from, least_of, greatest_of, bounds_are}
 use Rattle.uss_vol4.specs.declared.Box4.{Box4}
 use Rattle.uss_vol4.specs.Volume.{Volume4D, IsVolume, InAltitude, InTime}
@@ -133,6 +131,22 @@ pub grown_is : (vs : List Volume4D) (d : Volume4D) → 0 < length vs → grown_b
 unfolding bounding_box
 grown_is [] d l = absurd (omega arith)
 grown_is (v ∷ vs) d l = refl
+
+-- ---- the box of one volume
+min_self : (a : ℤ) → int_min a a ≡ a
+min_self a = omega (arith, ints, clamps)
+
+max_self : (a : ℤ) → int_max a a ≡ a
+max_self a = omega (arith, ints, clamps)
+
+one_box : (v : Volume4D) → bounding_box (v ∷ []) ≡ box_of v
+unfolding bounding_box
+one_box v = simp (min_self, max_self)
+
+pub bounds_one : (v : Volume4D) → IsVolume v → BoundsSome (box_of v)
+bounds_one v i =
+    let a : All IsVolume (v ∷ []) = All-cons IsVolume v [] i (All-nil IsVolume) in
+    record { volumes = v ∷ []; some = omega arith; well_formed = a; bounding = rw (one_box v) at (bounding_box_is (v ∷ []) (omega arith) a) }
 
 -- ---- the box of some volumes makes a volume
 record Chosen {A : Type 0} (Q : A → Type 0) (f : A → ℤ) (m : ℤ) : Type 0 where

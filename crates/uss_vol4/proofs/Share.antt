@@ -1,5 +1,5 @@
-use Rattle.std.proofs.Common.{◌≡◌, ℕ, ◌<◌, ◌↔◌, Bool, true, false, IsTrue, ◌&&◌, refl, ap, sym, ◌∙◌, ℤ, pos, arith, List, [], get_or}
-use Rattle.std.specs.Prelude.{◌≤ℤ◌, ◌<ℤ◌, int_le, Any}
+use Rattle.std.proofs.Common.{◌≡◌, ℕ, ◌↔◌, Bool, true, false, IsTrue, refl, ap, sym, ◌∙◌, ℤ, pos, arith, List, [], get_or}
+use Rattle.std.specs.Prelude.{◌≤ℤ◌, Any}
 use Rattle.std.specs.Int.{int_min, int_max}
 use Rattle.std.specs.List.{list_any}
 use Rattle.std.proofs.lemmas.Int.{ints, clamps}
@@ -7,15 +7,14 @@ use Rattle.std.proofs.lemmas.List.Folds.{Any-from_list_any, list_any-from_Any}
 use Rattle.std.proofs.lemmas.List.{get_or_default}
 use Rattle.uss_shape.specs.declared.Place.{Place}
 use Rattle.uss_shape.specs.Plane.{Meet, HoldsPoint, InRegion}
-use Rattle.uss_shape.specs.Overlap.{region_holds, outlines_meet}
 use Rattle.std.proofs.lemmas.Bool.Decides.{Decides-int_eq}
 use Rattle.uss_shape.proofs.Same.{same_vertices_tells}
 use Rattle.uss_vol4.specs.Same.{same_volume}
 use Rattle.uss_shape.proofs.Sides.{le_is}
 use Rattle.uss_shape.proofs.Answer.{and_tells, region_holds_tells, outlines_meet_tells}
 use Rattle.uss_shape.proofs.Forms.{map_fine_one}
-use Rattle.uss_vol4.specs.Volume.{Volume4D, IsVolume, InRange, Overlap, Shares, ListsShare, Holds, NoneShared, NoneSharedWith, IsLeastShared, IsFirstShared}
-use Rattle.uss_vol4.specs.Sharing.{ranges_share, volume_holds, shares, any_shares}
+use Rattle.uss_vol4.specs.Volume.{Volume4D, IsVolume, InRange, Overlap, Shares, ListsShare, Holds, NoneShared, IsLeastShared, IsFirstShared}
+use Rattle.uss_vol4.specs.Sharing.{volume_holds, shares, any_shares}
 
 -- ---- the greater of the two lower ends is in both ranges
 pub shares_of_meet : (a b : Volume4D) → int_max a.low b.low ≤ℤ int_min a.high b.high → int_max a.start b.start ≤ℤ int_min a.end b.end → Meet a.outline b.outline → Shares a b

@@ -1,5 +1,5 @@
 -- Boxes in four dimensions: the least box round volumes, and the volume of a box.
-use Rattle.std.specs.Prelude.{◌≡◌, ℕ, ◌<◌, ℤ, pos, List, [], ◌∷◌, length, All}
+use Rattle.std.specs.Prelude.{◌<◌, pos, List, [], ◌∷◌, length, All}
 use Rattle.std.specs.Int.{int_min, int_max}
 use Rattle.std.specs.List.{fold, flat_map}
 use Rattle.uss_shape.specs.declared.Place.{Place}

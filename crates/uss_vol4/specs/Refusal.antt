@@ -1,5 +1,5 @@
 -- When a volume is refused, and the numbers under which refusals are printed. They are this project's own.
-use Rattle.std.specs.Prelude.{ℕ, ◌⊎◌, ℤ, pos, neg_ℤ, ◌≤ℤ◌, ◌<ℤ◌, Option, Some, None}
+use Rattle.std.specs.Prelude.{ℕ, ℤ, ◌≤ℤ◌, ◌<ℤ◌, Option, Some, None}
 use Rattle.uss_vol4.specs.declared.VolRefusal.{VolRefusal}
 use Rattle.uss_vol4.specs.declared.VolRefusal.TheVariants.{LowAboveHigh, StartAfterEnd, AltitudeRange, TimeRange, Memory}
 use Rattle.uss_vol4.specs.Volume.{InAltitude, InTime}

@@ -1,5 +1,5 @@
 -- When `==` says that two volumes are the same: the same vertices in the same order, and the same ranges.
-use Rattle.std.specs.Prelude.{ℤ, Bool, ◌&&◌, List}
+use Rattle.std.specs.Prelude.{Bool, ◌&&◌}
 use Rattle.std.specs.Ordering.{int_eq}
 use Rattle.std.specs.Cmp.{IsEquivalence}
 use Rattle.std.proofs.lemmas.Cmp.{and_equiv, on_equiv, int_eq_equiv}

@@ -1,7 +1,7 @@
 -- Volumes in four dimensions, what lies in them, and when they share a point.
 -- A volume is the Volume4D of the OpenAPI annex of ASTM F3548-21 with one outline, a closed range of altitude in mm and a closed
 -- range of time in ns since 1970-01-01T00:00:00Z. That its borders belong to it, and the limits, are this project's own.
-use Rattle.std.specs.Prelude.{◌≡◌, ℕ, ◌<◌, ◌⊎◌, ℤ, pos, neg_ℤ, ◌≤ℤ◌, ◌<ℤ◌, List, length, slice_index_or, Any}
+use Rattle.std.specs.Prelude.{ℕ, ◌<◌, ℤ, pos, neg_ℤ, ◌≤ℤ◌, ◌<ℤ◌, List, length, slice_index_or, Any}
 use Rattle.uss_shape.specs.declared.Place.{Place}
 use Rattle.uss_shape.specs.Plane.{HoldsPoint}
 use Rattle.uss_shape.specs.Shape.{IsOutline}

@@ -24,7 +24,7 @@ impl Box4 {
 }
 
 impl Volume4 {
-    /// The least box round the volumes. Takes no memory.
+    /// The least box round the volumes, as for the area that a flight's volumes take. Takes no memory.
     pub fn bounding(list: &[Volume4]) -> Box4
         requires { 0 < length list.now }
         ensures value { result ≡ bounding_box list.now }

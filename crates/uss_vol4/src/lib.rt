@@ -4,8 +4,8 @@
 //! since 1970-01-01T00:00:00Z. Its borders belong to it: volumes that touch share a point.
 #![tactic(auto)]
 
-ghost use Rattle.std.specs.Prelude.{◌≡◌, ◌≢◌, ℕ, ◌<◌, ◌↔◌, ℤ, pos, ◌≤ℤ◌, IsTrue, List, length, is_some, IsOk, IfOk, IfErr, MatchOption};
-ghost use Rattle.uss_vol4.specs.Volume.{Volume4D, IsVolume, InRange, Overlap, Holds, Shares, IsLeastShared, NoneShared, NoneSharedWith, IsFirstShared};
+ghost use Rattle.std.specs.Prelude.{◌≡◌, ◌≢◌, ℕ, ◌<◌, ◌↔◌, ℤ, pos, ◌≤ℤ◌, IsTrue, List, length, is_some, IsSome, IsOk, IfOk, IfErr, MatchOption};
+ghost use Rattle.uss_vol4.specs.Volume.{Volume4D, IsVolume, InRange, Overlap, Holds, Shares, ListsShare, IsLeastShared, NoneShared, NoneSharedWith, IsFirstShared};
 ghost use Rattle.uss_vol4.specs.Sharing.{volume_holds, shares, any_shares};
 
 mod bounding;
@@ -116,9 +116,10 @@ impl Eq for Volume4 {
 
 impl Volume4 {
     ghost use Rattle.uss_vol4.specs.Refusal.{Refused};
-    ghost use Rattle.uss_vol4.specs.Bounding.{box_of};
+    ghost use Rattle.uss_vol4.specs.Bounding.{box_of, BoundsSome};
 
-    /// The volume over this outline from `low` to `high` mm and from `start` to `end` ns. The refusals come in the order of their
+    /// The volume over this outline from `low` to `high` mm and from `start` to `end` ns, as the readers of scripts and messages make
+    /// it. The refusals come in the order of their
     /// numbers. Takes no memory; a refused outline is dropped.
     pub fn of(
         outline: Outline,
@@ -193,6 +194,7 @@ impl Volume4 {
     /// The bounds of the outline with the ranges. Takes no memory, and no time: they are kept.
     pub fn bounds(&self) -> Box4
         ensures value { result ≡ box_of self.now }
+        ensures some { BoundsSome result }
         ensures volume { IsVolume self.now }
     {
         Box4 {
@@ -204,7 +206,8 @@ impl Volume4 {
         }
     }
 
-    /// Whether the place, at this altitude in mm and this instant in ns, lies in the volume, its borders included. Takes no memory.
+    /// Whether the place, at this altitude in mm and this instant in ns, lies in the volume, its borders included: the conformance
+    /// monitor asks it. Takes no memory.
     pub fn holds(&self, p: Place, altitude: i64, moment: i64) -> bool
         ensures point { IsTrue result ↔ Holds self.now p (pos 1) altitude moment }
         ensures test { result ≡ volume_holds self.now p altitude moment }
@@ -219,7 +222,7 @@ impl Volume4 {
     }
 
     /// Whether some point lies in both volumes: a point of the plane, with fractional coordinates too, at an altitude and an instant.
-    /// Takes no memory.
+    /// Planner and discovery service rest on it. Takes no memory; times, altitudes and bounds are compared before any edge.
     pub fn shares(a: &Volume4, b: &Volume4) -> bool
         ensures claim { IsTrue result ↔ Shares a.now b.now }
         ensures test { result ≡ shares a.now b.now }
@@ -233,9 +236,11 @@ impl Volume4 {
         a.outline.meets(&b.outline)
     }
 
-    /// The least pair of places that shares, first by the place in `a`; None exactly where no pair does. Takes no memory.
+    /// The least pair of places that shares, first by the place in `a`; None exactly where no pair does. Takes no memory, and looks at
+    /// no pair beyond the least.
     pub fn any_shared(a: &[Volume4], b: &[Volume4]) -> Option<(usize, usize)>
         ensures least { MatchOption result (NoneShared a.now b.now) (λ p. IsLeastShared a.now b.now p.0 p.1) }
+        ensures some { IsSome result ↔ ListsShare a.now b.now }
         ensures test { is_some result ≡ any_shares a.now b.now }
     {
         for (i, v) in a.iter().enumerate() {

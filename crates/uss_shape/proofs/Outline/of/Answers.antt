@@ -1,4 +1,3 @@
-use Rattle.std.proofs.Common.{◌≡◌, true, false}
 use Rattle.uss_shape.proofs.Walk.{origin}
 use Rattle.uss_shape.proofs.Within.{false_true}
 use Rattle.uss_shape.proofs.Outline.of.Goals as goal

@@ -2,11 +2,11 @@ use Rattle.std.proofs.Common.{arith}
 use Rattle.uss_text.proofs.Script.{lines_few, too_large, small_enough}
 use Rattle.uss_text.proofs.conflict.read_conflict.Goals as goal
 
-pub returns-then-text-gt-MOST : goal.returns-then-text-gt-MOST
-returns-then-text-gt-MOST c = λ real. too_large c.args.text.now c.if-text-gt-MOST.true
+pub returns-then-text-gt-MOST_BYTES : goal.returns-then-text-gt-MOST_BYTES
+returns-then-text-gt-MOST_BYTES c = λ real. too_large c.args.text.now c.if-text-gt-MOST_BYTES.true
 
 pub read_lines-requires : goal.read_lines-requires
-read_lines-requires c = rw c.of.ensures (omega (arith, lines_few c.args.text.now, c.if-text-gt-MOST.false))
+read_lines-requires c = rw c.of.ensures (omega (arith, lines_few c.args.text.now, c.if-text-gt-MOST_BYTES.false))
 
 pub returns : goal.returns
-returns c = rw (small_enough c.args.text.now c.if-text-gt-MOST.false, ← c.of.ensures) c.read_lines.ensures
+returns c = rw (small_enough c.args.text.now c.if-text-gt-MOST_BYTES.false, ← c.of.ensures) c.read_lines.ensures

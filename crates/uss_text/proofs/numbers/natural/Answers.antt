@@ -1,15 +1,8 @@
-use Rattle.std.proofs.Common.{◌≡◌, true, ◌∙◌}
-use Rattle.uss_text.specs.Numbers.{is_natural}
-use Rattle.uss_text.proofs.Digits.{natural_parsed, natural_utf8}
+use Rattle.uss_text.proofs.Decimal.{found, every}
 use Rattle.uss_text.proofs.numbers.natural.Goals as goal
 
-pub returns-in-Ok : goal.returns-in-Ok
-returns-in-Ok c =
-    let yes : is_natural c.args.word.now ≡ true = cc in
-    let parsed = rw c.in-Ok.ensures.cases.0 at c.parse.ensures.value.0 in
-    c.ok.ensures.value ∙ natural_parsed c.args.word.now c.parse.result yes parsed
+pub returns-clause-found : goal.returns-clause-found
+returns-clause-found c = found c.args.word.now c.parsed_natural.result c.parsed_natural.ensures
 
-pub returns-in-Err : goal.returns-in-Err
-returns-in-Err c =
-    let yes : is_natural c.args.word.now ≡ true = cc in
-    absurd (c.in-Err.ensures.cases.0 (natural_utf8 c.args.word.now yes))
+pub returns-clause-every : goal.returns-clause-every
+returns-clause-every c = every c.args.word.now c.parsed_natural.result c.parsed_natural.ensures

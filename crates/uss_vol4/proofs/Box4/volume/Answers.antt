@@ -1,9 +1,5 @@
-use Rattle.std.proofs.Common.{rules, ◌≡◌, SFits, w64}
-use Rattle.std.specs.Prelude.{IfOk, IfErr}
+use Rattle.std.proofs.Common.{rules, SFits, w64}
 use Rattle.std.proofs.lemmas.Int.{to_z-of_z}
-use Rattle.uss_shape.specs.Shape.{corners}
-use Rattle.uss_vol4.specs.Refusal.{Refused}
-use Rattle.uss_vol4.specs.Bounding.{volume_of}
 use Rattle.uss_vol4.proofs.Round.{ranges_of, only_memory}
 use Rattle.uss_vol4.proofs.Box4.volume.Goals as goal
 

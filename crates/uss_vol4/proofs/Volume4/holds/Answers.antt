@@ -1,4 +1,4 @@
-use Rattle.std.proofs.Common.{◌≡◌, ◌↔◌, ap, IsTrue, false, pos, SFits, w64}
+use Rattle.std.proofs.Common.{◌≡◌, ◌↔◌, ap, IsTrue, pos}
 use Rattle.std.proofs.lemmas.Int.{to_z-of_z}
 use Rattle.uss_shape.specs.Plane.{InRegion}
 use Rattle.uss_shape.proofs.Walk.{false_is}

@@ -1,0 +1,137 @@
+//! The discovery service (the DSS of ASTM F3548-21) in the small, over plain lists: references of operational
+//! intents with their extents, tickets, identifiers that are never used again, and the history of landings.
+//!
+//! `Dss::step` answers a client's call. `uss_law_dss` defines each reply and the state after it.
+#![tactic(auto)]
+
+ghost use Rattle.std.specs.Prelude.{◌≡◌, option_copied, slice_get, IfOk, OnOk, OnErr, IfSome};
+ghost use Rattle.std.specs.Option.{option_map};
+ghost use Rattle.uss_law_dss.specs.Service.{empty, has_number, recorded_of};
+ghost use Rattle.uss_law_dss.specs.Refusals.{refusal_of};
+ghost use Rattle.uss_law_dss.specs.Step.{service_step};
+
+mod actions;
+mod changes;
+mod judge;
+mod judge_put;
+mod key;
+mod put;
+mod shown;
+#[cfg(test)]
+mod tests;
+
+use std::alloc::{AllocError, Global};
+use std::marker::Model;
+use uss_intent::{
+    DssAsk, DssRefusal, DssReply, FlightId, Landings, Name, Recorded, Reference, Ticket, TicketId,
+    Volumes,
+};
+
+/// The discovery service. A contract sees its state: the references with their extents, ascending by flight, the
+/// tickets, ascending by identifier, the removed identifiers, and the landings, oldest first.
+#[derive(Drop)]
+pub struct Dss {
+    alloc: Global,
+    references: Vec<Recorded>,
+    tickets: Vec<Ticket>,
+    retired_flights: Vec<FlightId>,
+    retired_tickets: Vec<TicketId>,
+    landings: Landings,
+}
+
+impl Model for Dss {
+    ghost use Rattle.uss_law_dss.specs.Service.{Service};
+    ghost use Rattle.uss_law_dss.specs.Orderly.{IsOrderly};
+
+    ghost Value = { Service };
+
+    ghost view = { λ d. record { references = d.references.items; tickets = d.tickets.items; retired_flights = d.retired_flights.items; retired_tickets = d.retired_tickets.items; landings = d.landings } };
+
+    ghost invariant = { λ d. IsOrderly (record { references = d.references.items; tickets = d.tickets.items; retired_flights = d.retired_flights.items; retired_tickets = d.retired_tickets.items; landings = d.landings }) };
+}
+
+impl Dss {
+    /// A service that has recorded nothing. Takes no memory.
+    pub fn new(alloc: Global) -> Dss
+        ensures { result ≡ empty }
+    {
+        Dss {
+            alloc,
+            references: Vec::new(alloc),
+            tickets: Vec::new(alloc),
+            retired_flights: Vec::new(alloc),
+            retired_tickets: Vec::new(alloc),
+            landings: Landings::new(alloc),
+        }
+    }
+
+    /// The recorded reference with this number from 0, ascending by flight, with its OVN. Takes no memory.
+    pub fn reference(&self, n: usize) -> Option<&Reference>
+        ensures { option_copied result ≡ option_map (λ r. r.reference) (slice_get self.now.references n) }
+    {
+        match self.references.get(n) {
+            Some(r) => Some(&r.reference),
+            None => None,
+        }
+    }
+
+    /// The extents of the flight's recorded reference. Takes no memory.
+    pub fn extents(&self, flight: FlightId) -> Option<&Volumes>
+        ensures { option_copied result ≡ option_map (λ r. r.extents) (recorded_of flight self.now) }
+    {
+        match self.recorded(flight) {
+            Some(r) => Some(&r.extents),
+            None => None,
+        }
+    }
+
+    /// Whether the flight's reference was removed, so that its identifier is never used again. Takes no memory.
+    pub fn flight_retired(&self, flight: FlightId) -> bool
+        ensures { result ≡ has_number flight self.now.retired_flights }
+    {
+        self.retired_flights.iter().any(|f| *f == flight)
+    }
+
+    /// Whether the ticket was removed, so that its identifier is never used again. Takes no memory.
+    pub fn ticket_retired(&self, ticket: TicketId) -> bool
+        ensures { result ≡ has_number ticket self.now.retired_tickets }
+    {
+        self.retired_tickets.iter().any(|t| *t == ticket)
+    }
+
+    /// The history: each creation and change of a reference, oldest first. Takes no memory.
+    pub fn landings(&self) -> &Landings
+        ensures { result.now ≡ self.now.landings }
+    {
+        &self.landings
+    }
+
+    fn recorded(&self, flight: FlightId) -> Option<&Recorded>
+        ensures { option_copied result ≡ recorded_of flight self.now }
+    {
+        self.references
+            .iter()
+            .find(|r| r.reference.flight == flight)
+    }
+
+    /// Why the call is refused, if it is: the first of the call's refusals, in the order of their numbers, whose test holds. Want of
+    /// memory alone keeps it from answering.
+    pub fn refusal(&self, client: &Name, ask: &DssAsk) -> Result<Option<DssRefusal>, AllocError>
+        ensures { IfOk result (λ r. r ≡ refusal_of self.now client.now ask.now) }
+    {
+        self.judge(client, ask)
+    }
+
+    /// Answers a client's call. Want of memory leaves the service as it was, and so does a refusal.
+    pub fn step(&mut self, client: &Name, ask: &DssAsk) -> Result<DssReply, AllocError>
+        ensures reply { IfOk result (λ reply. reply ≡ (service_step self.old client.now ask.now).0) }
+        ensures state { OnOk result (self.new ≡ (service_step self.old client.now ask.now).1) }
+        ensures memory { OnErr result (self.new ≡ self.old) }
+        ensures refused { IfSome (refusal_of self.old client.now ask.now) (λ refusal. IfOk result (λ reply. (reply ≡ DssReply.Refused refusal) × (self.new ≡ self.old))) }
+    {
+        if let Some(refusal) = self.judge(client, ask)? {
+            return Ok(DssReply::Refused(refusal));
+        }
+        self.perform(client, ask)
+    }
+}

@@ -1,0 +1,7 @@
+mod Append
+mod Behind
+mod Bytes
+mod Chain
+mod Remount
+mod Stands
+mod Writing

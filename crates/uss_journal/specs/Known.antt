@@ -1,0 +1,9 @@
+-- The part of a journal's file that is kept in memory. This project's own.
+use Rattle.std.specs.Prelude.{◌≡◌, ◌-◌, [], ◌∷◌, ◌++◌, slice_set, vec_len}
+use Rattle.uss_journal.specs.declared.known.Known.{Known}
+
+-- a record that was staged is known: its gate is open, and the closed gate behind it is the last
+pub record IsAccepted (old new : Known) : Type 0 where
+  pub bytes : new.bytes.items ≡ slice_set old.bytes.items old.last 1
+  pub gates : new.gates.items ≡ old.gates.items ++ (vec_len old.bytes - 1) ∷ []
+  pub last : new.last ≡ vec_len old.bytes - 1

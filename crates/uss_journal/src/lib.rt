@@ -1,0 +1,16 @@
+//! A journal of records on a disk that may crash at any moment: each record that was acknowledged is kept.
+#![tactic(auto)]
+
+mod journal;
+mod known;
+mod law;
+mod load;
+mod refusal;
+mod scan;
+mod staged;
+#[cfg(test)]
+mod tests;
+
+pub use journal::{Journal, LIMIT};
+pub use law::written_records_are_found;
+pub use refusal::{JournalRefusal, MountRefusal};

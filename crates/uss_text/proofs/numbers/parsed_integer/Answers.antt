@@ -1,0 +1,15 @@
+use Rattle.std.proofs.Common.{◌≡◌, true, ◌∙◌}
+use Rattle.uss_text.specs.Numbers.{is_integer}
+use Rattle.uss_text.proofs.Digits.{integer_parsed, integer_utf8}
+use Rattle.uss_text.proofs.numbers.parsed_integer.Goals as goal
+
+pub returns-in-Ok : goal.returns-in-Ok
+returns-in-Ok c =
+    let yes : is_integer c.args.word.now ≡ true = cc in
+    let parsed = rw c.in-Ok.ensures.cases.0 at c.parse.ensures.value.0 in
+    c.ok.ensures.value ∙ integer_parsed c.args.word.now c.parse.result yes parsed
+
+pub returns-in-Err : goal.returns-in-Err
+returns-in-Err c =
+    let yes : is_integer c.args.word.now ≡ true = cc in
+    absurd (c.in-Err.ensures.cases.0 (integer_utf8 c.args.word.now yes))
