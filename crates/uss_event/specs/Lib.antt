@@ -1,0 +1,5 @@
+pub mod Rules
+pub mod Plans
+pub mod Pairs
+pub mod Transitions
+pub mod Verdicts

@@ -1,0 +1,25 @@
+-- Which priorities a table of rules lists. That conflict of equal priorities is allowed or forbidden by priority is after ASTM
+-- F3548-21; the table and its limits are this project's own.
+use Rattle.std.specs.Prelude.{ℕ, Bool, true, ◌&&◌, ◌==◌, nat_lt, nat_le, List, [], ◌∷◌, IsTrue}
+use Rattle.std.specs.List.{list_any, list_all}
+
+-- the priority is one of the list
+abbrev pub is_listed : ℕ → List ℕ → Bool
+is_listed priority list = list_any (λ p. p == priority) list
+
+-- the first is less than the list's first
+abbrev pub is_below : ℕ → List ℕ → Bool
+is_below n [] = true
+is_below n (m ∷ ms) = nat_lt n m
+
+-- each is less than the next
+abbrev pub ascend : List ℕ → Bool
+ascend [] = true
+ascend (n ∷ ns) = is_below n ns && ascend ns
+
+-- a table of rules: priorities from 0 to 1000, ascending, each once
+abbrev pub is_table : List ℕ → Bool
+is_table list = ascend list && list_all (λ p. nat_le p 1000) list
+
+abbrev pub IsTable : List ℕ → Type 0
+IsTable list = IsTrue (is_table list)

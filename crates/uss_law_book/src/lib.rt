@@ -1,0 +1,58 @@
+//! What a supplier's book is to be: definitions and laws, and no code that runs.
+//!
+//! `specs/Lists.antt` has what the entries say, `specs/Readings.antt` and `specs/Attempts.antt` what a book tells of jobs, flights,
+//! tickets and attempts, `specs/Coding.antt` which entries have a coding and how long it is, `specs/Reserve.antt` the room that a
+//! book keeps free, and `specs/Legal.antt` when a book is legal. The functions below do nothing: their contracts carry the laws.
+#![tactic(auto)]
+
+ghost use Rattle.std.specs.Prelude.{◌≡◌, ◌++◌, ◌∷◌, [], ℕ, List, Some, false};
+ghost use Rattle.std.specs.Option.{option_and_then};
+ghost use Rattle.uss_event.specs.declared.entries.Entry.{Entry};
+ghost use Rattle.uss_law_dss.specs.Lists.{Has};
+ghost use Rattle.uss_law_book.specs.Lists.{Opening, Trial, Holding, openings, trials};
+ghost use Rattle.uss_law_book.specs.Readings.{opening_of, trial_of, is_closed, open_job_of, holding, base_of};
+ghost use Rattle.uss_law_book.specs.Attempts.{Attempted, attempt_of, held};
+ghost use Rattle.uss_law_book.specs.Legal.{IsLegal, MayFollow};
+ghost use Rattle.uss_law_book.specs.Orderly.{IsOrderly, IsHeldOf};
+
+/// A book is legal where each of its entries may follow those before it: so every beginning of a legal book is legal, and a legal
+/// book goes on with an entry that may follow it, and with no other.
+pub fn legal_books_go_on()
+    ensures beginning { (book more : List Entry) → IsLegal (book ++ more) → IsLegal book }
+    ensures longer { (book : List Entry) (e : Entry) → IsLegal book → MayFollow book e → IsLegal (book ++ e ∷ []) }
+    ensures only { (book : List Entry) (e : Entry) → IsLegal (book ++ e ∷ []) → MayFollow book e }
+{}
+
+/// What holds of every legal book: jobs and tags are each one's own, a flight has one open job at most, a job is closed once, and all
+/// attempts of a job change the reference that was recorded of its flight.
+pub fn legal_books_are_orderly()
+    ensures { (book : List Entry) → IsLegal book → IsOrderly book }
+{}
+
+/// Jobs are found by their numbers, attempts by their tags, and a flight's open job by the flight.
+pub fn jobs_and_attempts_are_found()
+    ensures job { (book : List Entry) (o : Opening) → IsLegal book → Has (openings book) o → opening_of o.job book ≡ Some o }
+    ensures attempt { (book : List Entry) (t : Trial) → IsLegal book → Has (trials book) t → trial_of t.tag book ≡ Some t }
+    ensures open_job { (book : List Entry) (o : Opening) → IsLegal book → Has (openings book) o → is_closed o.job book ≡ false → open_job_of o.ask.flight book ≡ Some o }
+{}
+
+/// An attempt stays what it is, whatever is entered later.
+pub fn attempts_stay()
+    ensures { (book more : List Entry) (tag : ℕ) (a : Attempted) → attempt_of tag book ≡ Some a → attempt_of tag (book ++ more) ≡ Some a }
+{}
+
+/// A request, which is a flight and a number, opens one job.
+pub fn a_request_opens_one_job()
+    ensures { (book : List Entry) (o p : Opening) → IsLegal book → Has (openings book) o → Has (openings book) p → o.ask.flight ≡ p.ask.flight → o.ask.number ≡ p.ask.number → o ≡ p }
+{}
+
+/// All attempts of one job are made to change one reference, or all to create one.
+pub fn attempts_of_a_job_have_one_previous()
+    ensures { (book : List Entry) (t u : Trial) → IsLegal book → Has (trials book) t → Has (trials book) u → t.job ≡ u.job → t.previous ≡ u.previous }
+{}
+
+/// What a legal book holds of a flight is one of the attempts of a job of the flight, as it was recorded; its OVN is the flight's base.
+pub fn what_is_held_was_recorded()
+    ensures held { (book : List Entry) (flight : ℕ) (h : Holding) → IsLegal book → holding flight book ≡ Some h → IsHeldOf book flight h }
+    ensures base { (book : List Entry) (flight : ℕ) → IsLegal book → base_of flight book ≡ option_and_then (λ p. p.reference.ovn) (held flight book) }
+{}

@@ -1,0 +1,4 @@
+pub mod Worked
+pub mod Further
+pub mod Books
+pub mod Stays

@@ -1,0 +1,7 @@
+pub mod Heard
+pub mod Answers
+pub mod Sends
+pub mod Entered
+pub mod Sayings
+pub mod Duties
+pub mod Worked

@@ -1,0 +1,67 @@
+//! What one step of a supplier may do: what it may enter, send and say. Definitions and laws, and no code that runs.
+//!
+//! `specs/Heard.antt` has what a supplier heard and which pairs it keeps of it, `specs/Answers.antt` the answers that a book keeps,
+//! `specs/Sends.antt`, `specs/Entered.antt` and `specs/Sayings.antt` what may be sent, entered and said, and `specs/Duties.antt` the
+//! whole of a step. `specs/Worked.antt` has a worked job. The functions below do nothing: their contracts carry the laws.
+#![tactic(auto)]
+
+ghost use Rattle.std.specs.Prelude.{[], ◌∷◌, ◌++◌, ℤ, List, Option, codes, Some, None};
+ghost use Rattle.uss_event.specs.declared.events.Answer.TheVariants as Answers;
+ghost use Rattle.uss_event.specs.declared.events.Said.TheVariants as Says;
+ghost use Rattle.uss_event.specs.declared.events.Event.TheVariants as Comes;
+ghost use Rattle.uss_intent.specs.declared.calls.DssReply.TheVariants as Replies;
+ghost use Rattle.uss_event.specs.declared.calls.PeerReply.TheVariants as Peers;
+ghost use Rattle.uss_law_book.specs.Legal.{IsLegal};
+ghost use Rattle.uss_event.specs.declared.entries.Entry.{Entry};
+ghost use Rattle.uss_event.specs.declared.calls.Outgoing.{Outgoing};
+ghost use Rattle.uss_event.specs.declared.events.Said.{Said};
+ghost use Rattle.uss_event.specs.declared.events.Event.{Event};
+ghost use Rattle.uss_law_duty.specs.Heard.{News};
+ghost use Rattle.uss_law_duty.specs.Heard.News.{Heard};
+ghost use Rattle.uss_law_duty.specs.Duties.{book_after, MayStep};
+ghost use Rattle.uss_law_duty.specs.Worked.{flight, held_book, other_pair, keyed, keyed_put, keyed_book, details_of_other, held_pair, end_ask, end_opened, ending_book, remove, end_sends, end_replied, end_done, now, ask, opened, heard_open, pending, recorded, cancelling, done, new_book, asked_book, ticket_book, tried_book, cancelled_book, sends, replied, ticket_put, query, put, get, ticket_remove, the_ticket, the_reference, planned, missing, exists};
+
+/// A supplier may plan a flight: it opens a job for the request and asks for its ticket, asks what is there once it has the ticket,
+/// makes an attempt where nothing is there, and enters what landed as held.
+pub fn a_flight_may_be_planned()
+    ensures asking { MayStep new_book [] now (Comes.Ask ask) (Some opened) (sends ticket_put) Says.Nothing [] }
+    ensures ticket_made { MayStep asked_book [] now (replied ticket_put (Replies.TicketMade the_ticket)) (Some heard_open) (sends query) Says.Nothing [] }
+    ensures nothing_found { MayStep ticket_book [] now (replied query (Replies.Found [])) (Some pending) (sends put) Says.Nothing [] }
+    ensures landed { MayStep tried_book [] now (replied put (Replies.Landed the_reference [])) (Some recorded) [] planned [] }
+{}
+
+/// A supplier may go on where its key lacked something, and after a restart; and it may find a landing whose reply was lost.
+pub fn a_job_may_go_on()
+    ensures lacked { MayStep tried_book [] now (replied put missing) None (sends query) Says.Nothing [] }
+    ensures resumed { MayStep tried_book [] now (Comes.Ask ask) None (sends put) Says.Nothing [] }
+    ensures asks_again { MayStep tried_book [] now (replied put exists) None (sends get) Says.Nothing [] }
+    ensures got { MayStep tried_book [] now (replied get (Replies.Got the_reference)) (Some recorded) [] planned [] }
+{}
+
+/// A supplier may make an attempt with the key of what it heard, serve what it holds, and end a flight.
+pub fn a_flight_may_be_kept_apart_served_and_ended()
+    ensures served { MayStep ticket_book [] now (Comes.Peer details_of_other (Peers.Served other_pair)) (Some keyed) (sends keyed_put) Says.Nothing (Heard other_pair ∷ []) }
+    ensures serves { MayStep held_book [] now (Comes.Details (codes "uss2") flight) None [] (Says.Pair (Some held_pair)) [] }
+    ensures ends { MayStep held_book [] now (Comes.Ask end_ask) (Some end_opened) (end_sends remove) Says.Nothing [] }
+    ensures ended { MayStep ending_book [] now (end_replied remove (Replies.Removed the_reference [])) (Some end_done) [] (Says.Answer (Answers.Ended flight)) [] }
+{}
+
+/// A supplier may cancel a request after an attempt, once the attempt's ticket is gone.
+pub fn a_job_may_be_cancelled()
+    ensures cancels { MayStep tried_book [] now (Comes.Cancel 1 1) (Some cancelling) (sends ticket_remove) Says.Nothing [] }
+    ensures cancelled { MayStep cancelled_book [] now (replied ticket_remove (Replies.TicketRemoved the_ticket)) (Some done) [] (Says.Answer Answers.Cancelled) [] }
+{}
+
+/// The books of the worked steps are legal, from the owner's entry on: a flight that is planned and then ended, a request that is
+/// cancelled, and an attempt with a key.
+pub fn the_worked_books_are_legal()
+    ensures ended { IsLegal (ending_book ++ end_done ∷ []) }
+    ensures cancelled { IsLegal (cancelled_book ++ done ∷ []) }
+    ensures keyed { IsLegal keyed_book }
+{}
+
+/// A legal book is still legal after a step that is allowed.
+pub fn a_step_leaves_a_legal_book()
+    ensures { (book : List Entry) (heard : List News) (moment : ℤ) (event : Event) (entry : Option Entry) (sends : List Outgoing) (said : Said) (after : List News)
+        → IsLegal book → MayStep book heard moment event entry sends said after → IsLegal (book_after book entry) }
+{}
