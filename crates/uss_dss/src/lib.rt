@@ -17,8 +17,6 @@ mod judge_put;
 mod key;
 mod put;
 mod shown;
-#[cfg(test)]
-mod tests;
 
 use std::alloc::{AllocError, Global};
 use std::marker::Model;
