@@ -15,6 +15,8 @@ mod request;
 mod sources;
 mod stream;
 mod target;
+#[cfg(test)]
+mod tests;
 mod trailers;
 
 pub use body::take_body;
