@@ -1,0 +1,49 @@
+-- Refusals of messages, with their numbers. This project's own.
+use Rattle.std.specs.Prelude.{ℕ, List, Result, Ok, Err}
+use Rattle.uss_http_base.specs.declared.refusal.ReadRefusal.{ReadRefusal}
+use Rattle.uss_http_base.specs.declared.refusal.ReadRefusal.TheVariants as read
+use Rattle.uss_http_base.specs.declared.request.Request.{Request}
+use Rattle.uss_http_base.specs.Requests.{IsRequest, IsRefused}
+use Rattle.uss_http.specs.declared.refusal.HttpRefusal.{HttpRefusal}
+use Rattle.uss_http.specs.declared.refusal.HttpRefusal.TheVariants as refusal
+
+-- a refusal of reading from a source, as one of messages
+abbrev pub refusal_of : ReadRefusal → HttpRefusal
+refusal_of read.HeadTooLarge = refusal.HeadTooLarge
+refusal_of read.BadHead = refusal.BadHead
+refusal_of read.BodyTooLarge = refusal.BodyTooLarge
+refusal_of read.BadChunk = refusal.BadChunk
+refusal_of read.Truncated = refusal.Truncated
+refusal_of read.NoClient = refusal.NoClient
+refusal_of read.Fault = refusal.ReadFault
+refusal_of read.Memory = refusal.Memory
+
+-- the number of a refusal, 0 for a fault and for want of memory
+abbrev pub refusal_number : HttpRefusal → ℕ
+refusal_number refusal.HeadTooLarge = 431
+refusal_number refusal.BadHead = 432
+refusal_number refusal.BodyTooLarge = 433
+refusal_number refusal.BadChunk = 434
+refusal_number refusal.Truncated = 435
+refusal_number refusal.NoRoute = 436
+refusal_number (refusal.WrongMethod allowed) = 437
+refusal_number refusal.NoClient = 438
+refusal_number refusal.ReadFault = 0
+refusal_number refusal.DialFault = 0
+refusal_number refusal.Memory = 0
+
+-- the answer of reading, for bytes that are all that a source had left: the request at their front, or why there is
+-- none; of a fault and of want of memory the bytes say nothing
+abbrev pub IsReadFrom : List ℕ → Result Request HttpRefusal → Type 0
+IsReadFrom bytes (Ok request) = IsRequest bytes request
+IsReadFrom bytes (Err refusal.HeadTooLarge) = IsRefused bytes read.HeadTooLarge
+IsReadFrom bytes (Err refusal.BadHead) = IsRefused bytes read.BadHead
+IsReadFrom bytes (Err refusal.BodyTooLarge) = IsRefused bytes read.BodyTooLarge
+IsReadFrom bytes (Err refusal.BadChunk) = IsRefused bytes read.BadChunk
+IsReadFrom bytes (Err refusal.Truncated) = IsRefused bytes read.Truncated
+IsReadFrom bytes (Err refusal.NoClient) = IsRefused bytes read.NoClient
+IsReadFrom bytes (Err refusal.ReadFault) = Unit {0}
+IsReadFrom bytes (Err refusal.Memory) = Unit {0}
+IsReadFrom bytes (Err refusal.NoRoute) = ⊥
+IsReadFrom bytes (Err (refusal.WrongMethod allowed)) = ⊥
+IsReadFrom bytes (Err refusal.DialFault) = ⊥

@@ -1,0 +1,13 @@
+//! Messages of HTTP/1.1: requests read from a source and sent over a dial, responses written to a sink.
+#![tactic(auto)]
+
+mod reading;
+mod refusal;
+#[cfg(test)]
+mod tests;
+mod writing;
+
+pub use reading::read_request;
+pub use refusal::HttpRefusal;
+pub use uss_http_base::{Bytes, Request};
+pub use writing::{Response, write_request, write_response};

@@ -1,0 +1,69 @@
+ghost use Rattle.std.specs.Prelude.{◌≡◌};
+ghost use Rattle.uss_http.specs.Refusals.{refusal_of, refusal_number};
+
+use uss_http_base::{Bytes, ReadRefusal};
+
+/// Why a message was not read, sent or routed. In brackets the number of the refusal.
+#[derive(Debug, Drop)]
+pub enum HttpRefusal {
+    /// 16 KiB were taken that hold no whole head (431).
+    HeadTooLarge,
+    /// What came can't begin a head, or the head says two things of its body (432).
+    BadHead,
+    /// The body has more than 8 MiB (433).
+    BodyTooLarge,
+    /// A chunk, its size line or the trailers are malformed, or 16 KiB don't end them (434).
+    BadChunk,
+    /// The end came before the end of the message (435).
+    Truncated,
+    /// No path of the routes is that of the request (436).
+    NoRoute,
+    /// The path is one of the routes, but not with this method (437).
+    WrongMethod {
+        /// The methods of the path, joined by a comma and a space.
+        allowed: Bytes,
+    },
+    /// The name of the client isn't there once as a name (438).
+    NoClient,
+    /// A read of the source answered a fault.
+    ReadFault,
+    /// A call of the dial answered a fault.
+    DialFault,
+    /// Memory is wanting.
+    Memory,
+}
+
+/// The refusal of reading from a source.
+pub(crate) fn of_source(refusal: ReadRefusal) -> HttpRefusal
+    ensures { result ≡ refusal_of refusal }
+{
+    match refusal {
+        ReadRefusal::HeadTooLarge => HttpRefusal::HeadTooLarge,
+        ReadRefusal::BadHead => HttpRefusal::BadHead,
+        ReadRefusal::BodyTooLarge => HttpRefusal::BodyTooLarge,
+        ReadRefusal::BadChunk => HttpRefusal::BadChunk,
+        ReadRefusal::Truncated => HttpRefusal::Truncated,
+        ReadRefusal::NoClient => HttpRefusal::NoClient,
+        ReadRefusal::Fault => HttpRefusal::ReadFault,
+        ReadRefusal::Memory => HttpRefusal::Memory,
+    }
+}
+
+impl HttpRefusal {
+    /// The number of the refusal, or 0 for a fault and for want of memory.
+    pub fn number(&self) -> u16
+        ensures { result ≡ refusal_number self.now }
+    {
+        match self {
+            HttpRefusal::HeadTooLarge => 431,
+            HttpRefusal::BadHead => 432,
+            HttpRefusal::BodyTooLarge => 433,
+            HttpRefusal::BadChunk => 434,
+            HttpRefusal::Truncated => 435,
+            HttpRefusal::NoRoute => 436,
+            HttpRefusal::WrongMethod { .. } => 437,
+            HttpRefusal::NoClient => 438,
+            HttpRefusal::ReadFault | HttpRefusal::DialFault | HttpRefusal::Memory => 0,
+        }
+    }
+}
