@@ -117,7 +117,7 @@ served_said Says.NotManager p e = cc
 served_said _ p e = cc
 
 -- what a held pair is, of a book whose records landed
-held_made : (w : World) (s : ℕ) (book : List Entry) → IsOrderly book → book_of s w ≡ book → ((h : Holding) → Has (holdings book) h → HasLanding w s h.tag h.ovn) → (p : OperationalIntent) → IsHeldPair book p → IsMade w p
+pub held_made : (w : World) (s : ℕ) (book : List Entry) → IsOrderly book → book_of s w ≡ book → ((h : Holding) → Has (holdings book) h → HasLanding w s h.tag h.ovn) → (p : OperationalIntent) → IsHeldPair book p → IsMade w p
 unfolding held
 held_made w s book o e lands p q = go (holding q.flight book) refl
   where

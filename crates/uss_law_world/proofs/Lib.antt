@@ -12,3 +12,6 @@ pub mod Start
 pub mod Runs
 pub mod Answers
 pub mod Headline
+pub mod Second
+pub mod WorkedRuns
+pub mod Product

@@ -1,5 +1,8 @@
 -- An attempt, a landing and a recorded reference tell of each other.
-use Rattle.std.proofs.Common.{ℕ, List, [], ◌≡◌, refl, ap, sym, subst, ◌∙◌, Option, Some, None, slice_get, unwrap_or}
+use Rattle.std.proofs.Common.{ℕ, List, [], ◌≡◌, refl, ap, sym, subst, ◌∙◌, Option, Some, None, slice_get, unwrap_or, ◌==◌}
+use Rattle.std.specs.Prelude.{count_by}
+use Rattle.uss_vol4.specs.Volume.{Volume4D}
+use Rattle.uss_vol4.specs.Bounding.{bounding_box}
 use Rattle.std.specs.Option.{option_map}
 use Rattle.uss_intent.specs.Identifiers.{flight_number, ticket_number}
 use Rattle.uss_intent.specs.Texts.{tagged_base}
@@ -200,6 +203,9 @@ module _ (table : List ℕ) (owners : List Owner) (w : World) (names : AreSuppli
         extents = f.extents;
         base = f.base;
         ticket = f.ticket;
+        start = j.service.start r h ∙ ap (λ (z : List Volume4D). (bounding_box z).start) f.extents;
+        end = j.service.end r h ∙ ap (λ (z : List Volume4D). (bounding_box z).end) f.extents;
+        version = subst (λ n. r.reference.version ≡ count_by (λ (z : Landing). z.flight == n) w.service.landings) f.flight (j.service.versions r h);
         landing = l.0;
         landed = l.1;
         ovn = l.2;
