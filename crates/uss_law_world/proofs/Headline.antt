@@ -201,6 +201,7 @@ module _ (table : List ℕ) (owners : List Owner) (w : World) (names : AreSuppli
         manager = manager;
         flight = f.flight ∙ ap (λ (z : Attempted). z.flight) same;
         tag = m.landing.tag_is;
+        rank = m.landing.rank;
         is = m.is ∙ ap (λ o. recorded_as m.attempt o m.version) (sym m.landing.ovn);
       }
 

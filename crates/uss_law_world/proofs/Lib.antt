@@ -5,6 +5,7 @@ pub mod Grows
 pub mod Parts
 pub mod Clear
 pub mod Jobs
+pub mod Ranks
 pub mod Replies
 pub mod Calls
 pub mod Acts

@@ -215,9 +215,9 @@ module _ (table : List ℕ) (owners : List Owner) (w : World) (names : AreSuppli
       }
 
   -- the attempt of a landing with an OVN is that of a recorded reference with this OVN
-  pub landed_as : (r : Recorded) → Has w.service.references r → (f : RecordedFrom w r) → (s : ℕ) (b : Attempted) (o : List ℕ) → attempt_of b.tag (book_of s w) ≡ Some b → HasLanding w s b.tag o
+  pub landed_as : (r : Recorded) → Has w.service.references r → (f : RecordedFrom w r) → (s : ℕ) (b : Attempted) (o : List ℕ) (version : ℕ) → attempt_of b.tag (book_of s w) ≡ Some b → HasLanding w s b.tag o version
       → r.reference.ovn ≡ Some o → f.attempt ≡ b
-  landed_as r h f s b o k l e =
+  landed_as r h f s b o version k l e =
       let m = recorded_landing r h f in
       let n : m.0.ovn ≡ l.landing.ovn = some_same m.0.ovn o (sym m.2 ∙ e) ∙ sym l.ovn in
       let same : m.0 ≡ l.landing = one_landing w.service j.service m.0 l.landing m.1 l.landed n in

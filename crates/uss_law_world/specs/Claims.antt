@@ -1,6 +1,6 @@
 -- What is claimed of the world after every free list of moves. Strategic conflict detection is after ASTM F3548-21; the table of rules,
 -- the exception for an Activated intent and the answers are this project's own.
-use Rattle.std.specs.Prelude.{ℕ, ◌≤◌, ◌<◌, ◌≡◌, ◌≢◌, Bool, true, false, ◌&&◌, ◌==◌, List, filter, length, Option, Some, None, unwrap_or, count_by}
+use Rattle.std.specs.Prelude.{ℕ, ◌≤◌, ◌<◌, ◌≡◌, ◌≢◌, Bool, true, false, ◌&&◌, ◌==◌, List, filter, length, Option, Some, None, unwrap_or, count_by, if◌then◌else◌, ◌+◌, [], ◌∷◌}
 use Rattle.uss_vol4.specs.Volume.{ListsShare}
 use Rattle.uss_vol4.specs.Bounding.{bounding_box}
 use Rattle.uss_intent.specs.Tags.{tag_of}
@@ -72,7 +72,15 @@ pub record EachIsIntended (w : World) : Type 0 where
   pub some : (r : Recorded) → Has w.service.references r → (a : Attempted) × IsIntentOf w r a × IsRecordOf w r a
   pub one : (r : Recorded) (a b : Attempted) → Has w.service.references r → IsIntentOf w r a → IsIntentOf w r b → a ≡ b
 
--- a pair is made: it is an attempt of some supplier as it landed
+-- the number of a flight's landings up to the one with an OVN
+abbrev pub one_of : ℕ → Landing → ℕ
+one_of flight l = if l.flight == flight then 1 else 0
+
+abbrev pub rank_of : ℕ → List ℕ → List Landing → ℕ
+rank_of flight ovn [] = 0
+rank_of flight ovn (l ∷ ls) = if same_text l.ovn ovn then one_of flight l else one_of flight l + rank_of flight ovn ls
+
+-- a pair is made: it is an attempt of some supplier as it landed, and its version counts the flight's landings up to this one
 pub record IsMade (w : World) (p : OperationalIntent) : Type 0 where
   pub supplier : ℕ
   pub attempt : Attempted
@@ -83,6 +91,7 @@ pub record IsMade (w : World) (p : OperationalIntent) : Type 0 where
   pub manager : landing.manager ≡ attempt.manager
   pub flight : landing.flight ≡ attempt.flight
   pub tag : landing.tag ≡ attempt.tag
+  pub rank : rank_of landing.flight landing.ovn w.service.landings ≡ version
   pub is : p ≡ recorded_as attempt landing.ovn version
 
 -- each pair that a book holds, that was heard, that was served, and that was noted, is made
