@@ -34,7 +34,7 @@ use Rattle.uss_law_world.specs.World.{Supplier, World, supplier_in, book_in, boo
 use Rattle.uss_law_world.specs.World.Post.{Called}
 use Rattle.uss_law_world.specs.Moves.{Move, run}
 use Rattle.uss_law_world.specs.Free.{AreSuppliers, IsFree}
-use Rattle.uss_law_world.specs.Claims.{tag_in, EachIsIntended, IsMade, EachPairIsMade, Forbidden, NoneForbidden, IsClearAtLanding, LandingsAreClear, IsLandingOf, landings_of, is_request, EachAtMostOnce, FinalAnswersAreTrue, RefusalsAreSettled, OpenLandingsStay}
+use Rattle.uss_law_world.specs.Claims.{tag_in, EachIsIntended, IsMade, EachPairIsMade, Forbidden, NoneForbidden, IsClearAtLanding, LandingsAreClear, IsLandingOf, landings_of, is_request, EachAtMostOnce, FinalAnswersAreTrue, RefusalsAreSettled, OpenLandingsStay, BooksAgree}
 use Rattle.uss_law_world.proofs.Books.{legal_facts}
 use Rattle.uss_law_world.proofs.Facts.{Facts}
 use Rattle.uss_law_world.proofs.Facts as Made
@@ -43,6 +43,7 @@ use Rattle.uss_law_world.proofs.Parts.{stands, attempt_manager, one_attempt, int
 use Rattle.uss_law_world.proofs.Clear.{stands_clear}
 use Rattle.uss_law_world.proofs.Jobs.{one_of_job, held_or_recorded}
 use Rattle.uss_law_world.proofs.Calls.{is_tried, put_out, keyed, before, fields}
+use Rattle.uss_law_world.proofs.Between.{books_agree}
 use Rattle.uss_law_world.proofs.Runs.{reached_facts, run_append}
 use Rattle.uss_law_world.proofs.Answers.{run_says, said_is_true}
 
@@ -254,6 +255,9 @@ module _ (table : List ℕ) (owners : List Owner) (names : AreSuppliers table ow
 
   pub stay_after : OpenLandingsStay w
   stay_after = open_landings_stay table owners w names (reached_facts table owners names ms free)
+
+  pub agree_after : BooksAgree w
+  agree_after = books_agree table owners w names (reached_facts table owners names ms free)
 
   pub true_now : FinalAnswersAreTrue w w
   true_now = said_is_true table owners w names (reached_facts table owners names ms free)

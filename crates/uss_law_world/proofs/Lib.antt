@@ -16,3 +16,4 @@ pub mod Headline
 pub mod Second
 pub mod WorkedRuns
 pub mod Product
+pub mod Between

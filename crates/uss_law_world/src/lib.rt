@@ -19,7 +19,7 @@ ghost use Rattle.uss_law_world.specs.World.{start};
 ghost use Rattle.uss_law_world.specs.Moves.{Move, run};
 ghost use Rattle.uss_law_world.specs.Free.{AreSuppliers, IsFree};
 ghost use Rattle.uss_law_world.specs.Worked.{said_in, replies_in, saying, found_again, found_again_replies, cancelled_early, cancelled_early_replies, second, both_put, both_put_replies};
-ghost use Rattle.uss_law_world.specs.Claims.{EachIsIntended, NoneForbidden, EachAtMostOnce, FinalAnswersAreTrue, LandingsAreClear, RefusalsAreSettled, EachPairIsMade, OpenLandingsStay};
+ghost use Rattle.uss_law_world.specs.Claims.{EachIsIntended, NoneForbidden, EachAtMostOnce, FinalAnswersAreTrue, LandingsAreClear, RefusalsAreSettled, EachPairIsMade, OpenLandingsStay, BooksAgree};
 
 /// The headline: after every free list of moves no two recorded intents, both Accepted or Activated, of one priority at which conflict
 /// is forbidden, share a point of airspace and time; each recorded reference has exactly one intent, with its flight, state, extents,
@@ -57,6 +57,12 @@ pub fn refusals_of_an_open_job_are_settled()
 /// While a job is open, its landing stays recorded.
 pub fn an_open_jobs_landing_stays_recorded()
     ensures { (table : List ℕ) (owners : List Owner) (moves : List Move) → AreSuppliers table owners → IsFree (start owners) moves → OpenLandingsStay (run (start owners) moves) }
+{}
+
+/// While a flight has no open job and hasn't ended, what its supplier holds of it is what is recorded: the same reference over the same
+/// extents, or nothing. A flight that has ended is retired.
+pub fn books_agree_with_the_service()
+    ensures { (table : List ℕ) (owners : List Owner) (moves : List Move) → AreSuppliers table owners → IsFree (start owners) moves → BooksAgree (run (start owners) moves) }
 {}
 
 /// Each pair that a supplier holds, heard, serves or notes is an attempt of some supplier as it landed.
