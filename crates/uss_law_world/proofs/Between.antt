@@ -1,6 +1,6 @@
 -- Between the jobs of a flight, what is recorded of it is what its supplier holds.
-use Rattle.std.proofs.Common.{ℕ, ◌<◌, ◌≤◌, ◌+◌, ◌^◌, ◌==◌, ◌≡◌, ◌≢◌, ◌⊎◌, inl, inr, Bool, true, false, List, [], ◌∷◌, refl, ap, sym, subst, ◌∙◌, arith, Option, Some, None}
-use Rattle.std.specs.Prelude.{count_by, ℤ}
+use Rattle.std.proofs.Common.{ℕ, ◌<◌, ◌^◌, ◌==◌, ◌≡◌, inl, inr, Bool, true, false, List, refl, ap, sym, subst, ◌∙◌, arith, Option, Some, None}
+use Rattle.std.specs.Prelude.{ℤ}
 use Rattle.uss_vol4.specs.Volume.{Volume4D}
 use Rattle.uss_vol4.specs.Bounding.{bounding_box}
 use Rattle.uss_intent.specs.Identifiers.{flight_number}
@@ -12,7 +12,6 @@ use Rattle.uss_event.specs.Pairs.{OperationalIntent}
 use Rattle.uss_event.specs.declared.asks.Wish.{Wish}
 use Rattle.uss_event.specs.declared.asks.Wish.TheVariants.{Put, End}
 use Rattle.uss_event.specs.declared.entries.Owner.{Owner}
-use Rattle.uss_event.specs.declared.entries.Entry.{Entry}
 use Rattle.uss_event.specs.Plans as Plans
 use Rattle.uss_law_dss.specs.Lists.{Has}
 use Rattle.uss_law_dss.specs.Service.{has_number}
@@ -21,7 +20,7 @@ use Rattle.uss_law_dss.proofs.Lists.{list_any_has}
 use Rattle.uss_law_dss.proofs.Tests.{same_number, some_same, not_both, either}
 use Rattle.uss_law_dss.proofs.History.{last_has}
 use Rattle.uss_law_dss.proofs.EachOrderly.{one_landing}
-use Rattle.uss_law_book.specs.Lists.{Opening, Trial, Holding, Closing, openings, trials, holdings, endings}
+use Rattle.uss_law_book.specs.Lists.{Opening, Trial, Holding, Closing, openings, holdings, endings}
 use Rattle.uss_law_book.specs.Readings.{is_held, is_done, is_closed, is_ended, has_ended, last_holding, holding, open_job_of}
 use Rattle.uss_law_book.specs.Attempts.{Attempted, attempt_of, extents_of, recorded_as, held, held_by, by_wish}
 use Rattle.uss_law_book.specs.Orderly.{IsOrderly}
@@ -30,13 +29,13 @@ use Rattle.uss_law_book.proofs.Greatest.{each_is_closed}
 use Rattle.uss_law_book.proofs.Kept.{opening_has}
 use Rattle.uss_law_book.proofs.Held.{holding_has, held_of}
 use Rattle.uss_law_book.proofs.EachOrderly.{legal_is_orderly}
-use Rattle.uss_law_world.specs.World.{Supplier, World, supplier_in, book_in, book_of, name_of}
+use Rattle.uss_law_world.specs.World.{Supplier, World, book_of}
 use Rattle.uss_law_world.specs.Free.{AreSuppliers}
 use Rattle.uss_law_world.specs.Claims.{IsLandingOf, rank_of, HoldsWhatIsRecorded, BooksAgree}
-use Rattle.uss_law_world.proofs.Books.{BookFacts, legal_facts, ended_is, ended_tells}
+use Rattle.uss_law_world.proofs.Books.{legal_facts, ended_is, ended_tells}
 use Rattle.uss_law_world.proofs.Lookups.{same_flight}
-use Rattle.uss_law_world.proofs.Facts.{HasLanding, RecordedFrom, IsToEnd, Facts}
-use Rattle.uss_law_world.proofs.Parts.{Stands, stands, at, attempt_tag, attempt_flight, landed_as}
+use Rattle.uss_law_world.proofs.Facts.{HasLanding, RecordedFrom, Facts}
+use Rattle.uss_law_world.proofs.Parts.{Stands, at, attempt_tag, attempt_flight, landed_as}
 use Rattle.uss_law_world.proofs.Jobs.{by_opening, by_holding, by_closing, holding_landing, landing_of_recorded, nothing_lands, one_of_job, previous_is, flight_is}
 use Rattle.uss_law_world.proofs.Ranks.{rank_of_last}
 
@@ -114,17 +113,17 @@ module _ (table : List ℕ) (owners : List Owner) (w : World) (names : AreSuppli
             let l = landing_of_recorded table owners w names j r h s b.tag b here f refl in
             which q.opening.job shut
             (λ k i n. (let m = holding_landing table owners w names j s k i in
-                let x : IsLandingOf w s b.job m.0 = subst (λ z. IsLandingOf w s z m.0) (n ∙ (q.its_job ∙ sym q.its.job)) m.2 in
-                let same : m.0 ≡ l.0 = one_of_job table owners w names j s b.job m.0 l.0 x l.2 in
-                record {
-                  holding = k;
-                  entered = i;
-                  opening = q.opening;
-                  opened = q.opened;
-                  job_is = sym n;
-                  flight_is = one.1;
-                  ovn_is = l.1 ∙ ap Some (ap (λ (z : Landing). z.ovn) (sym same) ∙ m.1);
-                }))
+            let x : IsLandingOf w s b.job m.0 = subst (λ z. IsLandingOf w s z m.0) (n ∙ (q.its_job ∙ sym q.its.job)) m.2 in
+            let same : m.0 ≡ l.0 = one_of_job table owners w names j s b.job m.0 l.0 x l.2 in
+            record {
+              holding = k;
+              entered = i;
+              opening = q.opening;
+              opened = q.opened;
+              job_is = sym n;
+              flight_is = one.1;
+              ovn_is = l.1 ∙ ap Some (ap (λ (z : Landing). z.ovn) (sym same) ∙ m.1);
+            }))
             (λ d i n. absurd (over d i (q.opening) q.opened n one.1 (λ z. nothing_lands table owners w names j s d i z l.0 (subst (λ y. IsLandingOf w s y l.0) (q.its.job ∙ (sym q.its_job ∙ sym n)) l.2)) o))
           where
             over : (d : Closing) → Has (endings (book_of s w)) d → (p : Opening) → Has (openings (book_of s w)) p → d.job ≡ p.job → p.ask.flight ≡ flight → (is_ended d.end ≡ false → ⊥) → IsOrderly (book_of s w) → ⊥
@@ -141,9 +140,9 @@ module _ (table : List ℕ) (owners : List Owner) (w : World) (names : AreSuppli
         elim ((legal_facts (book_of s w) st.1.legal).followed k.holding k.opening k.entered k.opened k.job_is) [
           | inl last ↦ subst (λ z. last_holding z (book_of s w) ≡ Some k.holding) k.flight_is last
           | inr f ↦ (
-            let m = j.entered s f.next f.entered in
-            let p = previous_is table owners w names j s f.trial m.landing f.tried m.landed m.manager (f.tag ∙ sym m.tag_is) in
-            absurd (j.service.passed m.landing k.holding.ovn r m.landed (p ∙ f.previous) h k.ovn_is))
+              let m = j.entered s f.next f.entered in
+              let p = previous_is table owners w names j s f.trial m.landing f.tried m.landed m.manager (f.tag ∙ sym m.tag_is) in
+              absurd (j.service.passed m.landing k.holding.ovn r m.landed (p ∙ f.previous) h k.ovn_is))
         ]
 
     holding_is : (k : Holding) → last_holding flight (book_of s w) ≡ Some k → holding flight (book_of s w) ≡ Some k
@@ -174,15 +173,15 @@ module _ (table : List ℕ) (owners : List Owner) (w : World) (names : AreSuppli
             let shut = each_is_closed (book_of s w) flight o free i g in
             which o.job shut
             (λ k n e. (let t = r.own k n in
-                let a = r.attempted t.0 t.1 in
-                let p = parts t.0.tag (book_of s w) a.0 a.1 in
-                let q = opening_has (book_of s w) p.trial.job p.opening p.has_opening in
-                let y = trial_has (book_of s w) t.0.tag p.trial p.has_trial in
-                let u : p.trial ≡ t.0 = r.tags p.trial t.0 y.0 t.1 y.1 in
-                let same : p.opening ≡ o = r.jobs p.opening o q.0 i (q.1 ∙ (ap (λ (z : Trial). z.job) u ∙ (t.2 ∙ e))) in
-                no_wish a.0 p.owner p.opening p.trial p.opening.ask.wish (ap (λ (z : Opening). z.ask.wish) same ∙ end) p.is))
+            let a = r.attempted t.0 t.1 in
+            let p = parts t.0.tag (book_of s w) a.0 a.1 in
+            let q = opening_has (book_of s w) p.trial.job p.opening p.has_opening in
+            let y = trial_has (book_of s w) t.0.tag p.trial p.has_trial in
+            let u : p.trial ≡ t.0 = r.tags p.trial t.0 y.0 t.1 y.1 in
+            let same : p.opening ≡ o = r.jobs p.opening o q.0 i (q.1 ∙ (ap (λ (z : Trial). z.job) u ∙ (t.2 ∙ e))) in
+            no_wish a.0 p.owner p.opening p.trial p.opening.ask.wish (ap (λ (z : Opening). z.ask.wish) same ∙ end) p.is))
             (λ d n e. (let z = (legal_facts (book_of s w) st.1.legal).ends d o n i (sym e) end in
-                not_both (has_ended flight (book_of s w)) (subst (λ y. has_ended y (book_of s w) ≡ true) g (ended_is (book_of s w) d o r n z i (sym e))) live))
+            not_both (has_ended flight (book_of s w)) (subst (λ y. has_ended y (book_of s w) ≡ true) g (ended_is (book_of s w) d o r n z i (sym e))) live))
 
     none_held : (p : OperationalIntent) → held flight (book_of s w) ≡ Some p → holding flight (book_of s w) ≡ None → ⊥
     unfolding held
@@ -211,15 +210,15 @@ module _ (table : List ℕ) (owners : List Owner) (w : World) (names : AreSuppli
         j.service.versions r there ∙ (sym rank ∙ (ap (λ n. rank_of n l.0.ovn w.service.landings) i.flight ∙ (ap (λ (z : Landing). rank_of z.flight z.ovn w.service.landings) landing ∙ m.rank))) in
         let extents : r.extents ≡ extents_of a = f.extents ∙ ap extents_of same in (
           same_reference r.reference (recorded_as a h.ovn h.version).reference
-          (f.flight ∙ ap (λ (z : Attempted). z.flight) same)
-          (f.manager ∙ ap (λ (z : Attempted). z.manager) same)
-          version
-          (f.state ∙ ap (λ (z : Attempted). z.state) same)
-          ovn
-          (j.service.start r there ∙ ap (λ (z : List Volume4D). (bounding_box z).start) extents)
-          (j.service.end r there ∙ ap (λ (z : List Volume4D). (bounding_box z).end) extents)
-          (f.base ∙ ap (λ (z : Attempted). z.base) same)
-          (f.ticket ∙ ap (λ (z : Attempted). z.ticket) same),
+              (f.flight ∙ ap (λ (z : Attempted). z.flight) same)
+              (f.manager ∙ ap (λ (z : Attempted). z.manager) same)
+              version
+              (f.state ∙ ap (λ (z : Attempted). z.state) same)
+              ovn
+              (j.service.start r there ∙ ap (λ (z : List Volume4D). (bounding_box z).start) extents)
+              (j.service.end r there ∙ ap (λ (z : List Volume4D). (bounding_box z).end) extents)
+              (f.base ∙ ap (λ (z : Attempted). z.base) same)
+              (f.ticket ∙ ap (λ (z : Attempted). z.ticket) same),
           extents,
         )
 

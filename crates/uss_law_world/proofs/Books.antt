@@ -366,9 +366,9 @@ ends_after : (book : List Entry) (e : Entry) → IsOrderly book → IsOrderly (b
 ends_after book e s v f due d o h k q w = elim (which_ending book (e ∷ []) d h) [
   | inr new ↦ new_ends book e d o v due new k q w
   | inl old ↦ (
-    let x = s.ended d old in
-    let same : x.0 ≡ o = old_opening book e o d.job v x.0 x.1 x.2 k q in
-    f.ends d x.0 old x.1 x.2 (ap (λ (z : Opening). z.ask.wish) same ∙ w))
+      let x = s.ended d old in
+      let same : x.0 ≡ o = old_opening book e o d.job v x.0 x.1 x.2 k q in
+      f.ends d x.0 old x.1 x.2 (ap (λ (z : Opening). z.ask.wish) same ∙ w))
 ]
 
 facts_after : (book : List Entry) (e : Entry) → IsOrderly book → BookFacts book → MayFollow book e → BookFacts (book ++ e ∷ [])

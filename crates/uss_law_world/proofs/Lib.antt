@@ -17,3 +17,4 @@ pub mod Second
 pub mod WorkedRuns
 pub mod Product
 pub mod Between
+pub mod EachStep
