@@ -1,3 +1,6 @@
+ghost use Rattle.std.specs.Prelude.{◌≡◌};
+
+use std::alloc::AllocError;
 use uss_intent::{FlightId, Sequence, State, Volumes};
 
 /// What a supplier keeps of an operational intent beside its reference (OperationalIntentDetails of the OpenAPI annex of ASTM
@@ -11,11 +14,34 @@ pub struct Details {
     pub priority: u16,
 }
 
+impl Clone for Details {
+    ghost is_clone = { λ details copy. copy ≡ details };
+
+    fn clone(&self) -> Result<Details, AllocError> {
+        Ok(Details {
+            volumes: self.volumes.clone()?,
+            off_nominal: self.off_nominal.clone()?,
+            priority: self.priority,
+        })
+    }
+}
+
 /// One alternative of a request.
 #[derive(Debug, Drop)]
 pub struct Proposal {
     pub volumes: Volumes,
     pub off_nominal: Volumes,
+}
+
+impl Clone for Proposal {
+    ghost is_clone = { λ proposal copy. copy ≡ proposal };
+
+    fn clone(&self) -> Result<Proposal, AllocError> {
+        Ok(Proposal {
+            volumes: self.volumes.clone()?,
+            off_nominal: self.off_nominal.clone()?,
+        })
+    }
 }
 
 /// The alternatives of a request, the best first.

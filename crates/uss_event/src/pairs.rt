@@ -6,6 +6,7 @@ ghost use Rattle.uss_event.specs.Plans.{is_plan, vertex_count, extents_of, may_b
 ghost use Rattle.uss_event.specs.Pairs.{is_pair, pair_from};
 
 use crate::Details;
+use std::alloc::AllocError;
 use std::marker::Model;
 use uss_intent::{Reference, Sequence, State};
 use uss_vol4::Volume4;
@@ -27,6 +28,17 @@ impl Model for Pair {
     ghost view = { λ p. record { reference = p.reference; details = p.details } };
 
     ghost invariant = { λ p. IsTrue (is_pair p.reference p.details) };
+}
+
+impl Clone for Pair {
+    ghost is_clone = { λ pair copy. copy ≡ pair };
+
+    fn clone(&self) -> Result<Pair, AllocError> {
+        Ok(Pair {
+            reference: self.reference.clone()?,
+            details: self.details.clone()?,
+        })
+    }
 }
 
 /// Pairs, ascending by flight where they are held against a candidate.
