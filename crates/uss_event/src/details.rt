@@ -1,5 +1,7 @@
 ghost use Rattle.std.specs.Prelude.{◌≡◌};
 
+use crate::DetailsRefusal;
+use crate::pairs::refusal_of;
 use std::alloc::AllocError;
 use uss_intent::{FlightId, Sequence, State, Volumes};
 
@@ -23,6 +25,33 @@ impl Clone for Details {
             off_nominal: self.off_nominal.clone()?,
             priority: self.priority,
         })
+    }
+}
+
+impl Details {
+    ghost use Rattle.std.specs.Prelude.{◌≡◌, is_ok};
+    ghost use Rattle.uss_event.specs.Plans.{is_plan};
+    ghost use Rattle.uss_event.specs.Refusals.{details_from};
+
+    /// The details of an intent in this state, as the readers of messages and journals make them. The refusals come in the order of
+    /// their numbers, 121 to 125. Takes no memory; refused volumes are dropped.
+    pub fn of(
+        state: State,
+        volumes: Volumes,
+        off_nominal: Volumes,
+        priority: u16,
+    ) -> Result<Details, DetailsRefusal>
+        ensures value { result ≡ details_from state volumes off_nominal priority }
+        ensures plan { is_ok result ≡ is_plan state volumes off_nominal priority }
+    {
+        match refusal_of(state, volumes.as_slice(), off_nominal.as_slice(), priority) {
+            Some(refusal) => Err(refusal),
+            None => Ok(Details {
+                volumes,
+                off_nominal,
+                priority,
+            }),
+        }
     }
 }
 
