@@ -1,1 +1,2 @@
 pub mod Extents
+mod Ascending

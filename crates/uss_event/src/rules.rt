@@ -1,5 +1,6 @@
-ghost use Rattle.std.specs.Prelude.{◌≡◌};
-ghost use Rattle.uss_event.specs.Rules.{is_listed, IsTable};
+ghost use Rattle.std.specs.Prelude.{◌≡◌, ◌+◌, ◌<◌, nat_le, length, drop, slice_index};
+ghost use Rattle.std.specs.List.{list_all};
+ghost use Rattle.uss_event.specs.Rules.{is_listed, is_below, ascend, is_table, table_from, IsTable};
 
 use std::marker::Model;
 
@@ -31,7 +32,54 @@ impl Model for RuleTable {
     ghost invariant = { λ a. IsTable a.priorities.items };
 }
 
+/// Whether the number at this place is less than the next, if there is one.
+fn rises_at(numbers: &[u16], i: usize) -> bool
+    requires { i < length numbers.now }
+    ensures { result ≡ is_below (slice_index numbers.now i) (drop (i + 1) numbers.now) }
+{
+    let number = numbers[i];
+    match &numbers[i + 1..] {
+        [] => true,
+        [next, ..] => number < *next,
+    }
+}
+
+/// Whether each number is less than the next.
+fn ascend(numbers: &[u16]) -> bool
+    ensures { result ≡ ascend numbers.now }
+{
+    for i in 0..numbers.len() {
+        if !rises_at(numbers, i) {
+            return false;
+        }
+    }
+    true
+}
+
+fn are_in_range(priorities: &[u16]) -> bool
+    ensures { result ≡ list_all (λ p. nat_le p 1000) priorities.now }
+{
+    priorities.iter().all(|p| *p <= 1000)
+}
+
+fn is_table(priorities: &[u16]) -> bool
+    ensures { result ≡ is_table priorities.now }
+{
+    ascend(priorities) && are_in_range(priorities)
+}
+
 impl RuleTable {
+    /// The table that lists these priorities in this order, where they ascend from 0 to 1000. Takes no memory.
+    pub fn from_ascending(priorities: Vec<u16>) -> Option<RuleTable>
+        ensures { result ≡ table_from priorities.items }
+    {
+        if is_table(priorities.as_slice()) {
+            Some(RuleTable { priorities })
+        } else {
+            None
+        }
+    }
+
     /// Whether conflict at this priority is forbidden. Takes no memory.
     pub fn forbids(&self, priority: u16) -> bool
         ensures { result ≡ is_listed priority self.now }
