@@ -1,0 +1,3 @@
+mod Loop
+mod Made
+pub mod Appends
