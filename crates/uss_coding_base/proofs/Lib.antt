@@ -1,3 +1,3 @@
-mod Loop
+pub mod Loop
 mod Made
 pub mod Appends
