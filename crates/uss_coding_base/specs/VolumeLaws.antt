@@ -163,7 +163,11 @@ unfolding volume_at
 coded_volume =
     coded_only (λ (v : Volume4D). FitsParts (parts v)) (λ v. parts_of (parts v)) (made_at volume_of parts_at) is_volume IsVolume
     (λ v h k. volume_from v h)
-    (λ v h. (volume_true v h,
-      ((h.outline.few, λ k d lt. in_plane_fits (get_or v.outline k d) (h.outline.in_plane k d lt)),
-        (altitude_fits v.low h.low, (altitude_fits v.high h.high, (instant_fits v.start h.start, instant_fits v.end h.end))))))
+    (λ v h. (
+      volume_true v h,
+      (
+        (h.outline.few, λ k d lt. in_plane_fits (get_or v.outline k d) (h.outline.in_plane k d lt)),
+        (altitude_fits v.low h.low, (altitude_fits v.high h.high, (instant_fits v.start h.start, instant_fits v.end h.end))),
+      ),
+    ))
     (coded_made FitsParts parts_of parts_at volume_of parts (λ p. refl) (λ v. refl) coded_parts)
