@@ -18,12 +18,7 @@ use uss_coding_base::{Coded, Unread, put_list, put_option, take_list, take_optio
 use uss_event::{Ending, Entry, FlightAsk};
 use uss_intent::{Ovn, Ovns, Owed, Sequence};
 
-fn put_opened(
-    job: u64,
-    moment: i64,
-    value: &FlightAsk,
-    out: &mut Vec<u8>,
-) -> Result<(), AllocError>
+fn put_opened(job: u64, moment: i64, value: &FlightAsk, out: &mut Vec<u8>) -> Result<(), AllocError>
     requires time { InTime moment }
     requires valid { IsAsk value.now }
     ensures { OnOk result (out.new.items ≡ out.old.items ++ (in_8_bytes job ++ (signed_in_8_bytes moment ++ ask value.now))) }

@@ -29,7 +29,7 @@ module _ {A : Type 0} (reading : Reading A) where
   goes_on front count i bytes x behind total lt h so_far =
       let k : count - i ≡ suc (count - (i + 1)) = omega arith in
       let one : with_front front (many_at reading (count - i) bytes) ≡ with_front (front ++ x ∷ []) (many_at reading (count - (i + 1)) behind) =
-          rw (k, h) (regroup front x (many_at reading (count - (i + 1)) behind)) in
+      rw (k, h) (regroup front x (many_at reading (count - (i + 1)) behind)) in
       sym one ∙ so_far
 
   pub ends : (e : Unread) (front : List A) (count i : ℕ) (bytes : List ℕ) (total : Option (List A × List ℕ)) → i < count → Fails e (reading bytes)

@@ -1,10 +1,10 @@
 -- Numbers and texts are coded: what is read is spelled so, and what fits is read again.
-use Rattle.std.proofs.Common.{◌≡◌, ℕ, zero, suc, ◌+◌, ◌*◌, ◌/◌, ◌%◌, ◌^◌, ◌<◌, ◌≤◌, ℤ, pos, negsuc, Bool, true, false, cond, ltb, leb, List, [], ◌∷◌, ◌++◌, length, get_or, take, drop, Option, Some, None, refl, sym, ap, subst, ◌∙◌, append_assoc, arith, inl, inr}
+use Rattle.std.proofs.Common.{◌≡◌, ℕ, ◌+◌, ◌*◌, ◌/◌, ◌%◌, ◌^◌, ◌<◌, ◌≤◌, ℤ, pos, negsuc, Bool, true, false, cond, ltb, List, [], ◌∷◌, ◌++◌, length, take, drop, Option, Some, None, refl, sym, ap, subst, ◌∙◌, append_assoc, arith, inl, inr}
 use Rattle.std.specs.Int.{Width, w16, w32, w64, byte_len, from_be_bytes, to_be_bytes, cast_signed, cast_unsigned}
 use Rattle.std.specs.Int.RustNames.{FitsSigned}
 use Rattle.std.proofs.Math.Facts.{sfits_to_z}
-use Rattle.std.proofs.lemmas.Bool.{cases_lt, ltb-false, le-ltb, leb-true, le-leb}
-use Rattle.std.proofs.lemmas.Int.{ints, to_z-of_z, of_z-to_z}
+use Rattle.std.proofs.lemmas.Bool.{cases_lt, ltb-false, le-ltb}
+use Rattle.std.proofs.lemmas.Int.{to_z-of_z, of_z-to_z}
 use Rattle.std.proofs.lemmas.List.{take_at, drop_at, take-append-drop, length-append, length-take, get_or-drop, get_or-take, get_or_past, get_or-append-add}
 use Rattle.std.proofs.lemmas.Nat.{be_bytes_2, be_bytes_4, be_bytes_8, from_be_bytes-to_be_bytes_2, from_be_bytes-to_be_bytes_4, from_be_bytes-to_be_bytes_8, div-mul-add, mod-mul-add, div-add-mod'}
 use Rattle.uss_coding_base.specs.Spelling.{number, in_1_byte, in_2_bytes, in_4_bytes, in_8_bytes, in_16_bytes, signed_in_8_bytes, text}
@@ -61,7 +61,7 @@ module _ {A B : Type 0} (fits : A → Type 0) (spelling : A → List ℕ) (readi
         let first = c.found bytes a.0.0 a.0.1 are a.1 in
         let second = d.found a.0.1 b.0.0 b.0.1 (bytes_left bytes (spelling a.0.0) a.0.1 are first.0) b.1 in
         let whole : bytes ≡ (spelling a.0.0 ++ spelling' b.0.0) ++ b.0.1 =
-            first.0 ∙ ap (λ (r : List ℕ). spelling a.0.0 ++ r) second.0 ∙ sym (append_assoc (spelling a.0.0) (spelling' b.0.0) b.0.1) in
+        first.0 ∙ ap (λ (r : List ℕ). spelling a.0.0 ++ r) second.0 ∙ sym (append_assoc (spelling a.0.0) (spelling' b.0.0) b.0.1) in
         let made : (A × B) × List ℕ = ((a.0.0, b.0.0), b.0.1) in
         subst (λ (y : (A × B) × List ℕ). (bytes ≡ (spelling y.0.0 ++ spelling' y.0.1) ++ y.1) × (fits y.0.0 × fits' y.0.1)) (same_value made (x, rest) b.2) (whole, (first.1, second.1));
     again = λ x rest h.
@@ -142,9 +142,9 @@ coded_number w limit wide = record {
       let g = refused_some (ltb (length bytes) (byte_len w)) (from_be_bytes w (take (byte_len w) bytes), drop (byte_len w) bytes) (n, rest) e in
       let long : byte_len w ≤ length bytes = ltb-false _ _ g.0 in
       let front : to_be_bytes w (from_be_bytes w (take (byte_len w) bytes)) ≡ take (byte_len w) bytes =
-          wide.back (take (byte_len w) bytes) (omega (arith, length-take (byte_len w) bytes)) (bytes_taken (byte_len w) bytes are) in
+      wide.back (take (byte_len w) bytes) (omega (arith, length-take (byte_len w) bytes)) (bytes_taken (byte_len w) bytes are) in
       let parts : bytes ≡ to_be_bytes w (from_be_bytes w (take (byte_len w) bytes)) ++ drop (byte_len w) bytes =
-          sym (take-append-drop (byte_len w) bytes) ∙ ap (λ (f : List ℕ). f ++ drop (byte_len w) bytes) (sym front) in
+      sym (take-append-drop (byte_len w) bytes) ∙ ap (λ (f : List ℕ). f ++ drop (byte_len w) bytes) (sym front) in
       subst (λ (p : ℕ × List ℕ). (bytes ≡ to_be_bytes w p.0 ++ p.1) × (p.0 < limit)) g.1 (parts, wide.below (take (byte_len w) bytes) (bytes_taken (byte_len w) bytes are));
   again = λ n rest lt.
       let len = wide.len n in
@@ -194,7 +194,7 @@ coded_signed = record {
         let a = step_some (in_8_bytes_at bytes) (λ (v : ℕ × List ℕ). Some (cast_signed w64 v.0, v.1)) (z, rest) e in
         let f = coded_in_8_bytes.found bytes a.0.0 a.0.1 are a.1 in
         let g : (bytes ≡ signed_in_8_bytes (cast_signed w64 a.0.0) ++ a.0.1) × FitsSigned w64 (cast_signed w64 a.0.0) =
-            (f.0 ∙ ap (λ (n : ℕ). in_8_bytes n ++ a.0.1) (sym (of_z-to_z w64 a.0.0 f.1)), sfits_to_z (record { fits = f.1 })) in
+        (f.0 ∙ ap (λ (n : ℕ). in_8_bytes n ++ a.0.1) (sym (of_z-to_z w64 a.0.0 f.1)), sfits_to_z (record { fits = f.1 })) in
         let made : ℤ × List ℕ = (cast_signed w64 a.0.0, a.0.1) in
         subst (λ (y : ℤ × List ℕ). (bytes ≡ signed_in_8_bytes y.0 ++ y.1) × FitsSigned w64 y.0) (same_value made (z, rest) a.2) g
 
@@ -213,7 +213,7 @@ coded_in_16_bytes =
           let high : (a.0.0.0 * 2 ^ 64 + a.0.0.1) / 2 ^ 64 ≡ a.0.0.0 = div-mul-add a.0.0.0 (2 ^ 64) a.0.0.1 f.1.1 in
           let low : (a.0.0.0 * 2 ^ 64 + a.0.0.1) % 2 ^ 64 ≡ a.0.0.1 = mod-mul-add a.0.0.0 (2 ^ 64) a.0.0.1 f.1.1 in
           let parts : bytes ≡ in_16_bytes (from_halves a.0.0) ++ a.0.1 =
-              f.0 ∙ ap (λ (m : ℕ). (in_8_bytes m ++ in_8_bytes a.0.0.1) ++ a.0.1) (sym high) ∙ ap (λ (m : ℕ). (in_8_bytes ((a.0.0.0 * 2 ^ 64 + a.0.0.1) / 2 ^ 64) ++ in_8_bytes m) ++ a.0.1) (sym low) in
+          f.0 ∙ ap (λ (m : ℕ). (in_8_bytes m ++ in_8_bytes a.0.0.1) ++ a.0.1) (sym high) ∙ ap (λ (m : ℕ). (in_8_bytes ((a.0.0.0 * 2 ^ 64 + a.0.0.1) / 2 ^ 64) ++ in_8_bytes m) ++ a.0.1) (sym low) in
           let made : ℕ × List ℕ = (from_halves a.0.0, a.0.1) in
           subst (λ (y : ℕ × List ℕ). (bytes ≡ in_16_bytes y.0 ++ y.1) × (y.0 < 2 ^ 128)) (same_value made (n, rest) a.2) (parts, h);
       again = λ n rest h.
@@ -235,8 +235,8 @@ coded_text = record {
       let len : length (take n.0 n.1) ≡ n.0 = omega (arith, length-take n.0 n.1) in
       let behind : n.1 ≡ take n.0 n.1 ++ drop n.0 n.1 = sym (take-append-drop n.0 n.1) in
       let whole : bytes ≡ text (take n.0 n.1) ++ drop n.0 n.1 =
-          f.0 ∙ ap (λ (r : List ℕ). in_4_bytes n.0 ++ r) behind ∙ ap (λ (k : ℕ). in_4_bytes k ++ (take n.0 n.1 ++ drop n.0 n.1)) (sym len)
-          ∙ sym (append_assoc (in_4_bytes (length (take n.0 n.1))) (take n.0 n.1) (drop n.0 n.1)) in
+      f.0 ∙ ap (λ (r : List ℕ). in_4_bytes n.0 ++ r) behind ∙ ap (λ (k : ℕ). in_4_bytes k ++ (take n.0 n.1 ++ drop n.0 n.1)) (sym len)
+      ∙ sym (append_assoc (in_4_bytes (length (take n.0 n.1))) (take n.0 n.1) (drop n.0 n.1)) in
       subst (λ (p : List ℕ × List ℕ). (bytes ≡ text p.0 ++ p.1) × (length p.0 < 2 ^ 32)) g.1 (whole, omega (arith, f.1));
   again = λ t rest lt.
       let long : ltb (length (t ++ rest)) (length t) ≡ false = le-ltb _ _ (omega (arith, length-append t rest)) in

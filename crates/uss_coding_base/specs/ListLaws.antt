@@ -1,5 +1,5 @@
 -- Options and lists of coded values are coded.
-use Rattle.std.proofs.Common.{◌≡◌, ℕ, zero, suc, ◌+◌, ◌^◌, ◌<◌, ◌≤◌, Bool, true, false, cond, leb, List, [], ◌∷◌, ◌++◌, length, All, Option, Some, None, refl, sym, ap, subst, ◌∙◌, append_assoc, arith}
+use Rattle.std.proofs.Common.{◌≡◌, ℕ, zero, suc, ◌^◌, ◌<◌, ◌≤◌, Bool, true, false, cond, leb, List, [], ◌∷◌, ◌++◌, length, All, Option, Some, None, refl, sym, ap, subst, ◌∙◌, append_assoc, arith}
 use Rattle.std.specs.Prelude.{IfSome}
 use Rattle.std.specs.List.{flat_map}
 use Rattle.std.proofs.lemmas.Bool.{leb-true, le-leb}
@@ -8,10 +8,9 @@ use Rattle.std.proofs.lemmas.List.Concat.{flat_map-cons}
 use Rattle.uss_coding_base.specs.Spelling.{in_1_byte, in_4_bytes, optional, counted, list, short_list}
 use Rattle.uss_coding_base.specs.Reading.{Reading, ◌>>=◌, in_1_byte_at, in_4_bytes_at, optional_at, many_at, counted_at, list_at, short_list_at}
 use Rattle.uss_coding_base.specs.Coded.{AreBytes, IsCoded}
-use Rattle.uss_coding_base.specs.Laws.{bytes_left, step_some, test_some, same_value, coded_in_1_byte, coded_in_4_bytes}
+use Rattle.uss_coding_base.specs.Laws.{bytes_left, step_some, same_value, coded_in_1_byte, coded_in_4_bytes}
 
 module _ {A : Type 0} (fits : A → Type 0) (spelling : A → List ℕ) (reading : Reading A) (c : IsCoded fits spelling reading) where
-
   -- ---- options
 
   optional_found : (bytes : List ℕ) (o : Option A) (rest : List ℕ) → AreBytes bytes → optional_at reading bytes ≡ Some (o, rest) → (bytes ≡ optional spelling o ++ rest) × IfSome o fits
@@ -47,8 +46,8 @@ module _ {A : Type 0} (fits : A → Type 0) (spelling : A → List ℕ) (reading
       let first = c.found bytes a.0.0 a.0.1 are a.1 in
       let second = many_found n a.0.1 b.0 (bytes_left bytes (spelling a.0.0) a.0.1 are first.0) b.1 in
       let whole : bytes ≡ flat_map spelling (a.0.0 ∷ b.0.0) ++ b.0.1 =
-          first.0 ∙ ap (λ (r : List ℕ). spelling a.0.0 ++ r) second.0 ∙ sym (append_assoc (spelling a.0.0) (flat_map spelling b.0.0) b.0.1)
-          ∙ ap (λ (r : List ℕ). r ++ b.0.1) (sym (flat_map-cons spelling a.0.0 b.0.0)) in
+      first.0 ∙ ap (λ (r : List ℕ). spelling a.0.0 ++ r) second.0 ∙ sym (append_assoc (spelling a.0.0) (flat_map spelling b.0.0) b.0.1)
+      ∙ ap (λ (r : List ℕ). r ++ b.0.1) (sym (flat_map-cons spelling a.0.0 b.0.0)) in
       let made : List A × List ℕ = (a.0.0 ∷ b.0.0, b.0.1) in
       subst (λ (y : List A × List ℕ). (bytes ≡ flat_map spelling y.0 ++ y.1) × (length y.0 ≡ suc n) × All fits y.0) (same_value made x b.2)
       (whole, ap suc second.1, All-cons fits a.0.0 b.0.0 first.1 second.2)
@@ -58,7 +57,7 @@ module _ {A : Type 0} (fits : A → Type 0) (spelling : A → List ℕ) (reading
   many_again [] rest h = refl
   many_again (x ∷ xs) rest h =
       let regrouped : flat_map spelling (x ∷ xs) ++ rest ≡ spelling x ++ (flat_map spelling xs ++ rest) =
-          ap (λ (r : List ℕ). r ++ rest) (flat_map-cons spelling x xs) ∙ append_assoc (spelling x) (flat_map spelling xs) rest in
+      ap (λ (r : List ℕ). r ++ rest) (flat_map-cons spelling x xs) ∙ append_assoc (spelling x) (flat_map spelling xs) rest in
       ap (many_at reading (suc (length xs))) regrouped
       ∙ rw (c.again x (flat_map spelling xs ++ rest) (All-head fits x xs h), many_again xs rest (All-tail fits x xs h)) refl
 
@@ -73,8 +72,8 @@ module _ {A : Type 0} (fits : A → Type 0) (spelling : A → List ℕ) (reading
           let t = passed (leb a.0.0 limit) (many_at reading a.0.0 a.0.1) (xs, rest) a.2 in
           let m = many_found a.0.0 a.0.1 (xs, rest) (bytes_left bytes (count a.0.0) a.0.1 are f.0) t.1 in
           let whole : bytes ≡ counted count spelling xs ++ rest =
-              f.0 ∙ ap (λ (r : List ℕ). count a.0.0 ++ r) m.0 ∙ ap (λ (n : ℕ). count n ++ (flat_map spelling xs ++ rest)) (sym m.1)
-              ∙ sym (append_assoc (count (length xs)) (flat_map spelling xs) rest) in
+          f.0 ∙ ap (λ (r : List ℕ). count a.0.0 ++ r) m.0 ∙ ap (λ (n : ℕ). count n ++ (flat_map spelling xs ++ rest)) (sym m.1)
+          ∙ sym (append_assoc (count (length xs)) (flat_map spelling xs) rest) in
           (whole, (omega (arith, leb-true a.0.0 limit t.0, m.1), m.2));
       again = λ xs rest h.
           let few : leb (length xs) limit ≡ true = le-leb (length xs) limit h.0 in

@@ -11,6 +11,4 @@ mod texts;
 mod volumes;
 
 pub use coded::{Coded, Unread};
-pub use lists::{
-    put_list, put_option, put_short_list, take_list, take_option, take_short_list,
-};
+pub use lists::{put_list, put_option, put_short_list, take_list, take_option, take_short_list};

@@ -50,7 +50,11 @@ fn put_all<T: Coded>(items: &[T], out: &mut Vec<u8>) -> Result<(), AllocError>
 }
 
 /// So many values, and the bytes behind them.
-fn take_many<T: Coded + Drop>(alloc: Global, count: u32, bytes: &[u8]) -> Result<(Vec<T>, &[u8]), Unread>
+fn take_many<T: Coded + Drop>(
+    alloc: Global,
+    count: u32,
+    bytes: &[u8],
+) -> Result<(Vec<T>, &[u8]), Unread>
     ensures { Gives (λ x. (x.0.items, x.1.now)) result (many_at T.reading count bytes.now) }
 {
     let mut items = Vec::new(alloc);

@@ -1,7 +1,6 @@
 -- A coding has as many bytes as the book's reserve counts.
-use Rattle.std.proofs.Common.{◌≡◌, ℕ, suc, ◌+◌, ◌*◌, ℤ, List, [], ◌∷◌, ◌++◌, length, Option, Some, None, refl, sym, ap, ◌∙◌, length-append, arith}
+use Rattle.std.proofs.Common.{◌≡◌, ℕ, suc, ◌+◌, ◌*◌, ℤ, List, [], ◌∷◌, ◌++◌, length, Option, Some, None, refl, ap, ◌∙◌, length-append, arith}
 use Rattle.std.specs.List.{flat_map, sum_by}
-use Rattle.std.specs.Int.{w16, w32, w64}
 use Rattle.std.proofs.lemmas.List.Sums.{sum_by-cons}
 use Rattle.std.proofs.lemmas.List.Concat.{flat_map-cons}
 use Rattle.uss_shape.specs.declared.Place.{Place}
@@ -63,12 +62,18 @@ of_place p = omega (arith, length-append (signed_in_8_bytes p.x) (signed_in_8_by
 of_volume : (v : Volume4D) → length (volume v) ≡ volume_length v
 of_volume v =
     let outline : length (list place v.outline) ≡ 4 + 16 * length v.outline = omega (arith, of_list place v.outline, of_each_16 place of_place v.outline) in
-    omega (arith, outline,
+    omega (
+      arith,
+      outline,
       length-append (list place v.outline) (signed_in_8_bytes v.low ++ (signed_in_8_bytes v.high ++ (signed_in_8_bytes v.start ++ signed_in_8_bytes v.end))),
       length-append (signed_in_8_bytes v.low) (signed_in_8_bytes v.high ++ (signed_in_8_bytes v.start ++ signed_in_8_bytes v.end)),
       length-append (signed_in_8_bytes v.high) (signed_in_8_bytes v.start ++ signed_in_8_bytes v.end),
       length-append (signed_in_8_bytes v.start) (signed_in_8_bytes v.end),
-      signed_eight v.low, signed_eight v.high, signed_eight v.start, signed_eight v.end)
+      signed_eight v.low,
+      signed_eight v.high,
+      signed_eight v.start,
+      signed_eight v.end,
+    )
 
 of_volumes : (vs : List Volume4D) → length (short_list volume vs) ≡ volumes_length vs
 of_volumes vs = ap (λ (n : ℕ). suc n) (of_each volume volume_length of_volume vs) ∙ (omega arith)
@@ -104,21 +109,57 @@ of_ending (Ended owed) = omega (arith, of_owed owed)
 of_owner : (o : Owner) → length (owner o) + 1 ≡ coding_length (Enters.Owner o)
 of_owner o =
     let table : length (list in_2_bytes o.table) ≡ 4 + 2 * length o.table = omega (arith, of_list in_2_bytes o.table, of_each_2 in_2_bytes two o.table) in
-    omega (arith, length-append (in_4_bytes o.number) (text o.name ++ (text o.base ++ list in_2_bytes o.table)), length-append (text o.name) (text o.base ++ list in_2_bytes o.table),
-      length-append (text o.base) (list in_2_bytes o.table), four o.number, of_text o.name, of_text o.base, table)
+    omega (
+      arith,
+      length-append (in_4_bytes o.number) (text o.name ++ (text o.base ++ list in_2_bytes o.table)),
+      length-append (text o.name) (text o.base ++ list in_2_bytes o.table),
+      length-append (text o.base) (list in_2_bytes o.table),
+      four o.number,
+      of_text o.name,
+      of_text o.base,
+      table,
+    )
 
 of_fields : (e : Entry) → length (fields_of e) + 1 ≡ coding_length e
 of_fields (Enters.Owner o) = of_owner o
 of_fields (Opened job moment a) =
-    omega (arith, length-append (in_8_bytes job) (signed_in_8_bytes moment ++ ask a), length-append (signed_in_8_bytes moment) (ask a), length-append (in_8_bytes a.flight) (in_8_bytes a.number ++ wish a.wish),
-      length-append (in_8_bytes a.number) (wish a.wish), eight job, signed_eight moment, eight a.flight, eight a.number, of_wish a.wish)
+    omega (
+      arith,
+      length-append (in_8_bytes job) (signed_in_8_bytes moment ++ ask a),
+      length-append (signed_in_8_bytes moment) (ask a),
+      length-append (in_8_bytes a.flight) (in_8_bytes a.number ++ wish a.wish),
+      length-append (in_8_bytes a.number) (wish a.wish),
+      eight job,
+      signed_eight moment,
+      eight a.flight,
+      eight a.number,
+      of_wish a.wish,
+    )
 of_fields (TicketOpen job) = omega (arith, eight job)
 of_fields (Pending job tag alternative previous key) =
-    omega (arith, length-append (in_8_bytes job) (in_8_bytes tag ++ (alternative ∷ (optional text previous ++ list text key))), length-append (in_8_bytes tag) (alternative ∷ (optional text previous ++ list text key)),
-      length-append (optional text previous) (list text key), eight job, eight tag, of_option previous, of_texts key)
+    omega (
+      arith,
+      length-append (in_8_bytes job) (in_8_bytes tag ++ (alternative ∷ (optional text previous ++ list text key))),
+      length-append (in_8_bytes tag) (alternative ∷ (optional text previous ++ list text key)),
+      length-append (optional text previous) (list text key),
+      eight job,
+      eight tag,
+      of_option previous,
+      of_texts key,
+    )
 of_fields (Held job tag ovn version owed) =
-    omega (arith, length-append (in_8_bytes job) (in_8_bytes tag ++ (text ovn ++ (in_4_bytes version ++ list subscriber owed))), length-append (in_8_bytes tag) (text ovn ++ (in_4_bytes version ++ list subscriber owed)),
-      length-append (text ovn) (in_4_bytes version ++ list subscriber owed), length-append (in_4_bytes version) (list subscriber owed), eight job, eight tag, of_text ovn, four version, of_owed owed)
+    omega (
+      arith,
+      length-append (in_8_bytes job) (in_8_bytes tag ++ (text ovn ++ (in_4_bytes version ++ list subscriber owed))),
+      length-append (in_8_bytes tag) (text ovn ++ (in_4_bytes version ++ list subscriber owed)),
+      length-append (text ovn) (in_4_bytes version ++ list subscriber owed),
+      length-append (in_4_bytes version) (list subscriber owed),
+      eight job,
+      eight tag,
+      of_text ovn,
+      four version,
+      of_owed owed,
+    )
 of_fields (Deciding job end) = omega (arith, length-append (in_8_bytes job) (ending end), eight job, of_ending end)
 of_fields (Done job end) = omega (arith, length-append (in_8_bytes job) (ending end), eight job, of_ending end)
 of_fields (TicketGone job) = omega (arith, eight job)
