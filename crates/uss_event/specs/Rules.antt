@@ -1,6 +1,6 @@
 -- Which priorities a table of rules lists. That conflict of equal priorities is allowed or forbidden by priority is after ASTM
 -- F3548-21; the table and its limits are this project's own.
-use Rattle.std.specs.Prelude.{ℕ, Bool, true, ◌&&◌, ◌==◌, nat_lt, nat_le, List, [], ◌∷◌, IsTrue}
+use Rattle.std.specs.Prelude.{ℕ, Bool, true, ◌&&◌, ◌==◌, nat_lt, nat_le, List, [], ◌∷◌, Option, Some, None, IsTrue, if◌then◌else◌}
 use Rattle.std.specs.List.{list_any, list_all}
 
 -- the priority is one of the list
@@ -31,3 +31,7 @@ is_table list = ascend list && are_in_range list
 
 abbrev pub IsTable : List ℕ → Type 0
 IsTable list = IsTrue (is_table list)
+
+-- the table that is this list, where the list is one
+abbrev pub table_from : List ℕ → Option (List ℕ)
+table_from list = if is_table list then Some list else None

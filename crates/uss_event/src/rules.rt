@@ -1,6 +1,6 @@
-ghost use Rattle.std.specs.Prelude.{◌≡◌, ◌↔◌, ℕ, IsTrue, IfOk, IfErr, IsErrOf};
+ghost use Rattle.std.specs.Prelude.{◌≡◌, ◌↔◌, ◌+◌, ◌<◌, ℕ, IsTrue, IfOk, IfErr, IsErrOf, length, drop, slice_index};
 ghost use Rattle.std.specs.List.{list_any};
-ghost use Rattle.uss_event.specs.Rules.{is_listed, is_too_great, are_in_range, IsTable};
+ghost use Rattle.uss_event.specs.Rules.{is_listed, is_below, ascend, is_table, table_from, is_too_great, are_in_range, IsTable};
 
 use crate::DetailsRefusal;
 use std::alloc::{AllocError, Global};
@@ -32,6 +32,42 @@ impl Model for RuleTable {
     ghost view = { λ a. a.priorities.items };
 
     ghost invariant = { λ a. IsTable a.priorities.items };
+}
+
+/// Whether the number at this place is less than the next, if there is one.
+fn rises_at(numbers: &[u16], i: usize) -> bool
+    requires { i < length numbers.now }
+    ensures { result ≡ is_below (slice_index numbers.now i) (drop (i + 1) numbers.now) }
+{
+    let number = numbers[i];
+    match &numbers[i + 1..] {
+        [] => true,
+        [next, ..] => number < *next,
+    }
+}
+
+/// Whether each number is less than the next.
+fn ascend(numbers: &[u16]) -> bool
+    ensures { result ≡ ascend numbers.now }
+{
+    for i in 0..numbers.len() {
+        if !rises_at(numbers, i) {
+            return false;
+        }
+    }
+    true
+}
+
+fn are_in_range(priorities: &[u16]) -> bool
+    ensures { result ≡ are_in_range priorities.now }
+{
+    priorities.iter().all(|p| *p <= 1000)
+}
+
+fn is_table(priorities: &[u16]) -> bool
+    ensures { result ≡ is_table priorities.now }
+{
+    ascend(priorities) && are_in_range(priorities)
 }
 
 fn is_any_too_great(list: &[u16]) -> bool
@@ -82,6 +118,17 @@ impl RuleTable {
                 priorities: in_order(priorities),
             }),
             Err(_) => Err(DetailsRefusal::Memory),
+        }
+    }
+
+    /// The table that lists these priorities in this order, where they ascend from 0 to 1000. Takes no memory.
+    pub fn from_ascending(priorities: Vec<u16>) -> Option<RuleTable>
+        ensures { result ≡ table_from priorities.items }
+    {
+        if is_table(priorities.as_slice()) {
+            Some(RuleTable { priorities })
+        } else {
+            None
         }
     }
 

@@ -1,0 +1,14 @@
+pub mod Books
+pub mod Lookups
+pub mod Facts
+pub mod Grows
+pub mod Parts
+pub mod Clear
+pub mod Jobs
+pub mod Replies
+pub mod Calls
+pub mod Acts
+pub mod Start
+pub mod Runs
+pub mod Answers
+pub mod Headline
