@@ -33,7 +33,7 @@ use Rattle.uss_law_dss.specs.Lists.{Has}
 use Rattle.uss_law_dss.specs.Service.{has_number, recorded_of}
 use Rattle.uss_law_dss.specs.Step.{service_step}
 use Rattle.uss_law_book.specs.Lists.{Opening, Trial, openings, trials}
-use Rattle.uss_law_book.specs.Readings.{is_open, owns, open_job_of, has_ended}
+use Rattle.uss_law_book.specs.Readings.{is_open, owns, opening_of, open_job_of, has_ended}
 use Rattle.uss_law_book.specs.Attempts.{Attempted, attempt_of, extents_of, recorded_as, held}
 use Rattle.uss_law_duty.specs.Heard.News.{Heard}
 use Rattle.uss_law_duty.specs.Answers.{is_final, job_of_request}
@@ -247,6 +247,17 @@ RefusalsAreSettled w =
 abbrev pub OpenLandingsStay : World → Type 0
 OpenLandingsStay w =
     (s job : ℕ) (l : Landing) → is_open job (book_of s w) ≡ true → IsLandingOf w s job l → (r : Recorded) × Has w.service.references r × (r.reference.ovn ≡ Some l.ovn)
+
+-- and the discovery service gives it to its supplier, who asks for the flight
+pub record IsGot (w : World) (s flight : ℕ) (l : Landing) : Type 0 where
+  pub reference : Reference
+  pub reply : (service_step w.service (name_of s w) (Asks.Get flight)).0 ≡ Replies.Got reference
+  pub ovn : reference.ovn ≡ Some l.ovn
+  pub tag : tag_in reference ≡ l.tag
+
+abbrev pub OpenLandingsAreGot : World → Type 0
+OpenLandingsAreGot w =
+    (s job : ℕ) (o : Opening) (l : Landing) → is_open job (book_of s w) ≡ true → opening_of job (book_of s w) ≡ Some o → IsLandingOf w s job l → IsGot w s (flight_number s o.ask.flight) l
 
 -- of a flight, what is recorded is what its supplier holds: the same reference over the same extents, or nothing
 pub record HoldsWhatIsRecorded (w : World) (s flight : ℕ) : Type 0 where

@@ -8,12 +8,12 @@
 //! functions below do nothing: their contracts carry the laws. `proofs/Facts.antt` has what is kept by every move; the proofs of the
 //! laws stand on nothing else.
 //!
-//! Which clauses of `MayStep` the laws need: `legal` and `records` all of them; `keys`, `hears`, `pair`, `notes` and `held` that intents
+//! Which clauses of `MayStep` the laws need: all of them `legal` and `records`; `keys`, `hears`, `pair`, `notes` and `held` that intents
 //! stay apart, that landings are clear and that pairs are made; `held`, `removals` and `final` that final answers are true; `held`,
-//! `removals` and, for the job that a ticket is of, `ticket_removals` that refusals are settled and that an open job's landing stays
-//! recorded; `held` and `removals` that books agree with the service. No law here needs `tickets`, `ticket_calls`, `cause` and
-//! `goes_on`; nor that a Put is of an open job, that a Remove is of an open one, that a Held comes of a fitting reply to the very call, nor when a
-//! ticket may be taken out: a supplier that breaks those gets in its own way, and harms no claim.
+//! `removals` and, for whose ticket it is, `ticket_removals` that refusals are settled and that an open job's landing stays recorded;
+//! `held` and `removals` that books agree with the service. No law here needs `tickets`, `ticket_calls`, `cause` and `goes_on`. Nor
+//! does any need that a Put is of an open job and a Remove of an open one, that a Held comes of a fitting reply to the very call, or
+//! when a ticket may be taken out: those duties keep a supplier from getting in its own way.
 #![tactic(auto)]
 
 ghost use Rattle.std.specs.Prelude.{◌≡◌, ◌≤◌, ◌++◌, [], ◌∷◌, List, ℕ};
@@ -28,7 +28,7 @@ ghost use Rattle.uss_law_world.specs.Moves.{Move, step_of, run};
 ghost use Rattle.uss_event.specs.declared.steps.Step.{Step};
 ghost use Rattle.uss_law_world.specs.Free.{AreSuppliers, IsFree};
 ghost use Rattle.uss_law_world.specs.Worked.{said_in, replies_in, saying, found_again, found_again_replies, cancelled_early, cancelled_early_replies, second, both_put, both_put_replies};
-ghost use Rattle.uss_law_world.specs.Claims.{EachIsIntended, NoneForbidden, EachAtMostOnce, FinalAnswersAreTrue, LandingsAreClear, RefusalsAreSettled, EachPairIsMade, OpenLandingsStay, BooksAgree};
+ghost use Rattle.uss_law_world.specs.Claims.{EachIsIntended, NoneForbidden, EachAtMostOnce, FinalAnswersAreTrue, LandingsAreClear, RefusalsAreSettled, EachPairIsMade, OpenLandingsStay, OpenLandingsAreGot, BooksAgree};
 
 /// The headline, first part: after every free list of moves no two recorded intents, both Accepted or Activated, of one priority at which
 /// conflict is forbidden, share a point of airspace and time; and each recorded reference has exactly one intent, with its flight, state,
@@ -63,9 +63,10 @@ pub fn refusals_of_an_open_job_are_settled()
     ensures { (table : List ℕ) (owners : List Owner) (moves : List Move) → AreSuppliers table owners → IsFree (start owners) moves → RefusalsAreSettled (run (start owners) moves) }
 {}
 
-/// While a job is open, its landing stays recorded.
+/// While a job is open, its landing stays recorded, and the supplier that asks the discovery service for the flight gets it.
 pub fn an_open_jobs_landing_stays_recorded()
-    ensures { (table : List ℕ) (owners : List Owner) (moves : List Move) → AreSuppliers table owners → IsFree (start owners) moves → OpenLandingsStay (run (start owners) moves) }
+    ensures recorded { (table : List ℕ) (owners : List Owner) (moves : List Move) → AreSuppliers table owners → IsFree (start owners) moves → OpenLandingsStay (run (start owners) moves) }
+    ensures got { (table : List ℕ) (owners : List Owner) (moves : List Move) → AreSuppliers table owners → IsFree (start owners) moves → OpenLandingsAreGot (run (start owners) moves) }
 {}
 
 /// While a flight has no open job and hasn't ended, what its supplier holds of it is what is recorded: the same reference over the same
