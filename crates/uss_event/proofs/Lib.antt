@@ -1,2 +1,4 @@
 pub mod Extents
+pub mod Tables
+pub mod Accepted
 mod Ascending
