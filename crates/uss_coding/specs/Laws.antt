@@ -1,12 +1,11 @@
 -- Each part of an entry is coded, and so is each entry.
-use Rattle.std.proofs.Common.{◌≡◌, ℕ, zero, suc, ◌+◌, ◌^◌, ◌<◌, ◌≤◌, ℤ, Bool, true, false, cond, leb, eqb, List, [], ◌∷◌, ◌++◌, length, All, Option, Some, None, refl, sym, ap, subst, ◌∙◌, append_assoc, append-nil, arith}
-use Rattle.std.specs.Prelude.{◌&&◌, IfSome, nat_le, nat_lt}
+use Rattle.std.proofs.Common.{◌≡◌, ℕ, zero, suc, ◌+◌, ◌^◌, ◌<◌, ◌≤◌, ℤ, true, cond, eqb, List, [], ◌∷◌, ◌++◌, length, All, Option, Some, None, refl, sym, ap, subst, ◌∙◌, append-nil, arith}
+use Rattle.std.specs.Prelude.{IfSome, nat_le, nat_lt}
 use Rattle.std.specs.List.{list_all}
 use Rattle.std.specs.Int.{w64}
 use Rattle.std.specs.Int.RustNames.{FitsSigned}
 use Rattle.std.proofs.lemmas.Bool.{and_parts, leb-true, ltb-true, le-leb, eqb-true}
 use Rattle.std.proofs.lemmas.List.{nil_from_length}
-use Rattle.std.proofs.lemmas.List.Elements.{All-weaker}
 use Rattle.std.proofs.lemmas.List.Sums.{AllPass-from_list_all}
 use Rattle.uss_vol4.specs.Volume.{Volume4D, IsVolume, InTime}
 use Rattle.uss_intent.specs.Texts.{IsName, IsOvn, IsBase}
@@ -14,7 +13,7 @@ use Rattle.uss_intent.specs.States.{state_number}
 use Rattle.uss_intent.specs.declared.records.State.{State}
 use Rattle.uss_intent.specs.declared.records.State.TheVariants.{Accepted, Activated, Nonconforming, Contingent}
 use Rattle.uss_intent.specs.declared.records.Subscriber.{Subscriber}
-use Rattle.uss_event.specs.Rules.{IsTable, is_table, ascend, is_below}
+use Rattle.uss_event.specs.Rules.{IsTable, is_table, ascend}
 use Rattle.uss_event.specs.declared.rules.Verdict.{Verdict}
 use Rattle.uss_event.specs.declared.rules.Verdict.TheVariants.{Clear, EqualForbidden, HigherStands}
 use Rattle.uss_event.specs.declared.details.Proposal.{Proposal}
@@ -27,9 +26,9 @@ use Rattle.uss_event.specs.declared.entries.Ending.TheVariants.{Conflict, Stale,
 use Rattle.uss_event.specs.declared.entries.Entry.{Entry}
 use Rattle.uss_event.specs.declared.entries.Entry.TheVariants.{Opened, TicketOpen, Pending, Held, Deciding, Done, TicketGone, Sent}
 use Rattle.uss_event.specs.declared.entries.Entry.TheVariants as Enters
-use Rattle.uss_law_book.specs.Coding.{IsOwner, IsProposal, IsPutWish, IsWish, IsAsk, IsSubscriber, AreOwed, IsRule, IsEnding, IsDecision, IsPending, IsHolding, HasCoding}
+use Rattle.uss_law_book.specs.Coding.{IsOwner, IsProposal, IsWish, IsAsk, IsSubscriber, AreOwed, IsRule, IsEnding, IsDecision, HasCoding}
 use Rattle.uss_coding_base.specs.Spelling.{in_1_byte, in_2_bytes, in_4_bytes, in_8_bytes, in_16_bytes, signed_in_8_bytes, text, optional, list, short_list, volume}
-use Rattle.uss_coding_base.specs.Reading.{Reading, ◌>>=◌, both_at, made_at, only_at, in_1_byte_at, in_2_bytes_at, in_4_bytes_at, in_8_bytes_at, in_16_bytes_at, signed_in_8_bytes_at, optional_at, list_at, short_list_at}
+use Rattle.uss_coding_base.specs.Reading.{Reading, ◌>>=◌, both_at, made_at, in_1_byte_at, in_2_bytes_at, in_16_bytes_at, signed_in_8_bytes_at, list_at, short_list_at}
 use Rattle.uss_coding_base.specs.Coded.{AreBytes, IsCoded}
 use Rattle.uss_coding_base.specs.Laws.{bytes_left, step_some, test_some, same_value, coded_both, coded_made, coded_only, coded_in_1_byte, coded_in_2_bytes, coded_in_4_bytes, coded_in_8_bytes, coded_in_16_bytes, coded_signed}
 use Rattle.uss_coding_base.specs.ListLaws.{coded_optional, coded_list, coded_short_list}

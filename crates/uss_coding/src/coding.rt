@@ -6,16 +6,17 @@ ghost use Rattle.uss_coding.specs.Coding.{coding_of};
 ghost use Rattle.uss_coding.specs.Reading.{all_of};
 
 use crate::entries::{put_entry, take_entry};
+use crate::lengths::length_of;
 use std::alloc::{AllocError, Global};
 use uss_coding_base::Unread;
 use uss_event::Entry;
 
-/// The coding of an entry: one buffer, as the journal takes it.
+/// The coding of an entry: one buffer, as the journal takes it, with room for all of it from the start.
 pub fn write(alloc: Global, entry: &Entry) -> Result<Vec<u8>, AllocError>
     requires { HasCoding entry.now }
     ensures { IfOk result (λ v. v.items ≡ coding_of entry.now) }
 {
-    let mut out = Vec::new(alloc);
+    let mut out = Vec::with_capacity(alloc, length_of(entry) as usize)?;
     put_entry(entry, &mut out)?;
     Ok(out)
 }

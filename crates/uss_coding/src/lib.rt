@@ -9,8 +9,12 @@ mod coding;
 mod endings;
 mod entries;
 mod law;
+mod lengths;
 mod owner;
+#[cfg(test)]
+mod tests;
 mod values;
 
 pub use coding::{read, write};
 pub use law::{codings_have_their_length, one_coding_each};
+pub use lengths::{length_of, opening_length};

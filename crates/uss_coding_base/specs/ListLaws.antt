@@ -1,5 +1,5 @@
 -- Options and lists of coded values are coded.
-use Rattle.std.proofs.Common.{◌≡◌, ℕ, zero, suc, ◌+◌, ◌^◌, ◌<◌, ◌≤◌, Bool, true, false, cond, leb, List, [], ◌∷◌, ◌++◌, length, All, Option, Some, None, refl, sym, ap, subst, ◌∙◌, append_assoc, arith}
+use Rattle.std.proofs.Common.{◌≡◌, ℕ, zero, suc, ◌^◌, ◌<◌, ◌≤◌, Bool, true, false, cond, leb, List, [], ◌∷◌, ◌++◌, length, All, Option, Some, None, refl, sym, ap, subst, ◌∙◌, append_assoc, arith}
 use Rattle.std.specs.Prelude.{IfSome}
 use Rattle.std.specs.List.{flat_map}
 use Rattle.std.proofs.lemmas.Bool.{leb-true, le-leb}
@@ -8,7 +8,7 @@ use Rattle.std.proofs.lemmas.List.Concat.{flat_map-cons}
 use Rattle.uss_coding_base.specs.Spelling.{in_1_byte, in_4_bytes, optional, counted, list, short_list}
 use Rattle.uss_coding_base.specs.Reading.{Reading, ◌>>=◌, in_1_byte_at, in_4_bytes_at, optional_at, many_at, counted_at, list_at, short_list_at}
 use Rattle.uss_coding_base.specs.Coded.{AreBytes, IsCoded}
-use Rattle.uss_coding_base.specs.Laws.{bytes_left, step_some, test_some, same_value, coded_in_1_byte, coded_in_4_bytes}
+use Rattle.uss_coding_base.specs.Laws.{bytes_left, step_some, same_value, coded_in_1_byte, coded_in_4_bytes}
 
 module _ {A : Type 0} (fits : A → Type 0) (spelling : A → List ℕ) (reading : Reading A) (c : IsCoded fits spelling reading) where
   -- ---- options

@@ -1,5 +1,5 @@
 -- Places and volumes are coded.
-use Rattle.std.proofs.Common.{◌≡◌, ℕ, ◌^◌, ◌<◌, ◌≤◌, ℤ, pos, negsuc, neg_ℤ, ◌≤ℤ◌, Bool, true, false, List, ◌++◌, length, get_or, All, refl, sym, ap, subst, ◌∙◌, arith}
+use Rattle.std.proofs.Common.{◌≡◌, ℕ, ◌≤◌, ℤ, pos, negsuc, neg_ℤ, ◌≤ℤ◌, true, List, ◌++◌, length, get_or, All, refl, arith}
 use Rattle.std.specs.Prelude.{◌&&◌, int_le, nat_le}
 use Rattle.std.specs.List.{list_all}
 use Rattle.std.specs.Int.{w64}
@@ -12,7 +12,7 @@ use Rattle.uss_shape.specs.Plane.{InPlane}
 use Rattle.uss_shape.specs.Shape.{IsOutline}
 use Rattle.uss_vol4.specs.Volume.{Volume4D, IsVolume, InAltitude, InTime}
 use Rattle.uss_coding_base.specs.Spelling.{signed_in_8_bytes, list, place, volume}
-use Rattle.uss_coding_base.specs.Reading.{Reading, both_at, made_at, only_at, list_at, signed_in_8_bytes_at}
+use Rattle.uss_coding_base.specs.Reading.{Reading, both_at, made_at, list_at, signed_in_8_bytes_at}
 use Rattle.uss_coding_base.specs.Coded.{IsCoded}
 use Rattle.uss_coding_base.specs.Volumes.{is_in_plane, is_outline, is_altitude, is_instant, is_volume, place_at, volume_of, volume_at}
 use Rattle.uss_coding_base.specs.Laws.{coded_both, coded_made, coded_only, coded_signed}

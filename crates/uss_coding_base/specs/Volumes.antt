@@ -1,5 +1,5 @@
 -- How places and volumes are read, and a test of what a volume is. This project's own.
-use Rattle.std.specs.Prelude.{ℕ, Bool, ◌&&◌, nat_le, ℤ, pos, neg_ℤ, int_le, List, length}
+use Rattle.std.specs.Prelude.{Bool, ◌&&◌, nat_le, ℤ, pos, neg_ℤ, int_le, List, length}
 use Rattle.std.specs.List.{list_all}
 use Rattle.uss_shape.specs.declared.Place.{Place}
 use Rattle.uss_vol4.specs.Volume.{Volume4D}

@@ -117,7 +117,7 @@ served_said Says.NotManager p e = cc
 served_said _ p e = cc
 
 -- what a held pair is, of a book whose records landed
-held_made : (w : World) (s : ℕ) (book : List Entry) → IsOrderly book → book_of s w ≡ book → ((h : Holding) → Has (holdings book) h → HasLanding w s h.tag h.ovn) → (p : OperationalIntent) → IsHeldPair book p → IsMade w p
+pub held_made : (w : World) (s : ℕ) (book : List Entry) → IsOrderly book → book_of s w ≡ book → ((h : Holding) → Has (holdings book) h → HasLanding w s h.tag h.ovn h.version) → (p : OperationalIntent) → IsHeldPair book p → IsMade w p
 unfolding held
 held_made w s book o e lands p q = go (holding q.flight book) refl
   where
@@ -133,7 +133,7 @@ held_made w s book o e lands p q = go (holding q.flight book) refl
           version = h.version;
           found = subst (λ b. attempt_of k.attempt.tag b ≡ Some k.attempt) (sym e) (subst (λ t. attempt_of t book ≡ Some k.attempt) (sym tag) k.found);
           is = some_same p (recorded_as k.attempt h.ovn h.version) (sym q.is ∙ k.is);
-          landing = subst (λ t. HasLanding w s t h.ovn) (sym tag) (lands h k.entered);
+          landing = subst (λ t. HasLanding w s t h.ovn h.version) (sym tag) (lands h k.entered);
         }
 
 module _ (table : List ℕ) (owners : List Owner) (w : World) (names : AreSuppliers table owners) (j : Facts table owners w) (a : Arrival) (c : Choice) (posts : List Post)
@@ -190,6 +190,7 @@ module _ (table : List ℕ) (owners : List Owner) (w : World) (names : AreSuppli
         books = λ k. each k (λ b h. (more : List Entry) × (b ≡ book_of k w ++ more)) (λ e. longer k e) ([], sym (append-nil (book_of k w)));
         untried = λ k. each k (λ b h. (d : Closing) → Has (endings (book_of k w)) d → (t : Trial) → Has (trials b) t → t.job ≡ d.job → Has (trials (book_of k w)) t) (λ e. untried k e) (λ d h t n q. n);
         landings = λ l h. h;
+        ranks = λ flight l h. refl;
         flights = λ n h. h;
         tickets = λ n h. h;
       }
@@ -258,26 +259,26 @@ module _ (table : List ℕ) (owners : List Owner) (w : World) (names : AreSuppli
   shows_landing job tag ask (Replies.Got reference) r x h = subst (ShowsLanding w s) h.1 x
   shows_landing job tag ask _ r x h = absurd h
 
-  held_landing : (job tag : ℕ) (ovn : List ℕ) (version : ℕ) → HoldsByReply m.owner book a.event job tag ovn version → HasLanding w s tag ovn
+  held_landing : (job tag : ℕ) (ovn : List ℕ) (version : ℕ) → HoldsByReply m.owner book a.event job tag ovn version → HasLanding w s tag ovn version
   held_landing job tag ovn version h =
       let x = came_reply job h.ask h.reply h.answers in
       let y = shows_landing job tag h.ask h.reply h.reference x h.shows in
-      subst (λ z. HasLanding w s z ovn) (tag_shown h.reference tag ovn h.tag_is h.ovn_is) (y ovn h.ovn_is)
+      subst (λ z. HasLanding w s z ovn version) (tag_shown h.reference tag ovn h.tag_is h.ovn_is) (subst (λ z. HasLanding w s (tag_in h.reference) ovn z) h.version_is (y ovn h.ovn_is))
 
-  new_held : (e : Entry) → HeldIsShown m.owner book a.event e → (h : Holding) → Has (holdings (e ∷ [])) h → HasLanding w s h.tag h.ovn
-  new_held (Enters.Held job tag ovn version owed) d h (inl q) = subst (λ (z : Holding). HasLanding w s z.tag z.ovn) q (held_landing job tag ovn version d)
+  new_held : (e : Entry) → HeldIsShown m.owner book a.event e → (h : Holding) → Has (holdings (e ∷ [])) h → HasLanding w s h.tag h.ovn h.version
+  new_held (Enters.Held job tag ovn version owed) d h (inl q) = subst (λ (z : Holding). HasLanding w s z.tag z.ovn z.version) q (held_landing job tag ovn version d)
   new_held (Enters.Held job tag ovn version owed) d h (inr n) = absurd n
   new_held _ d h n = absurd n
 
-  held_after : (h : Holding) → Has (holdings after) h → Has (holdings book) h ⊎ HasLanding w s h.tag h.ovn
+  held_after : (h : Holding) → Has (holdings after) h → Has (holdings book) h ⊎ HasLanding w s h.tag h.ovn h.version
   held_after h k = go c.entry m.held k
     where
-      go : (entry : Option Entry) → IfSome entry (HeldIsShown m.owner book a.event) → Has (holdings (book_after book entry)) h → Has (holdings book) h ⊎ HasLanding w s h.tag h.ovn
+      go : (entry : Option Entry) → IfSome entry (HeldIsShown m.owner book a.event) → Has (holdings (book_after book entry)) h → Has (holdings book) h ⊎ HasLanding w s h.tag h.ovn h.version
       go None d k = inl k
       go (Some e) d k = elim (which_holding book (e ∷ []) h k) [ inl old ↦ inl old | inr new ↦ inr (new_held e d h new) ]
 
-  landed_after : (h : Holding) → Has (holdings after) h → HasLanding v s h.tag h.ovn
-  landed_after h k = has_landing grows s h.tag h.ovn (elim (held_after h k) [ inl old ↦ j.entered s h old | inr new ↦ new ])
+  landed_after : (h : Holding) → Has (holdings after) h → HasLanding v s h.tag h.ovn h.version
+  landed_after h k = has_landing grows s h.tag h.ovn h.version (elim (held_after h k) [ inl old ↦ j.entered s h old | inr new ↦ new ])
 
   -- a held pair is made
   pair_after : (p : OperationalIntent) → IsHeldPair after p → IsMade v p
@@ -598,7 +599,7 @@ module _ (table : List ℕ) (owners : List Owner) (w : World) (names : AreSuppli
         served = λ k n call p h. elim (has_append w.posts posts (Answered k n call (Peers.Served p)) h) [ inl old ↦ inl old | inr new ↦ inr (new_served k n call p new) ];
         notes = λ k to job place base note p h e. elim (has_append w.posts posts (Asked k to (Calls.Notify job place base note)) h) [ inl old ↦ inl old | inr new ↦ inr (new_note k to job place base note p new e) ];
         heard = λ k p. each k (λ b h. Has h (Heard p) → Has (heard_of k w) (Heard p) ⊎ IsMade v p) (λ e h. inr (made grows p (new_heard p h))) (λ h. inl h);
-        entered = λ k h. each k (λ b z. Has (holdings b) h → Has (holdings (book_of k w)) h ⊎ HasLanding v k h.tag h.ovn) (λ e i. inr (subst (λ z. HasLanding v z h.tag h.ovn) (sym e) (landed_after h i))) (λ i. inl i);
+        entered = λ k h. each k (λ b z. Has (holdings b) h → Has (holdings (book_of k w)) h ⊎ HasLanding v k h.tag h.ovn h.version) (λ e i. inr (subst (λ z. HasLanding v z h.tag h.ovn h.version) (sym e) (landed_after h i))) (λ i. inl i);
         keys = λ k tag x. each k (λ b z. attempt_of tag b ≡ Some x → (attempt_of tag (book_of k w) ≡ Some x) ⊎ (is_strategic x.state ≡ true → (o : List ℕ) → Has x.key o → IsClearOvn table v x o)) (λ e f. keys_at k tag x e f) (λ f. inl f);
         landings = λ l h. inl h;
         recorded = λ r h. inl h;

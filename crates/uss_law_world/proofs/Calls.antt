@@ -1,5 +1,6 @@
 -- A call that the discovery service takes keeps what holds.
-use Rattle.std.proofs.Common.{ℕ, ◌<◌, ◌≡◌, ◌⊎◌, inl, inr, ◌==◌, ◌^◌, Bool, true, false, not, List, [], ◌∷◌, ◌++◌, refl, ap, sym, subst, ◌∙◌, Option, Some, None, unwrap_or}
+use Rattle.std.proofs.Common.{ℕ, ◌<◌, ◌≡◌, ◌⊎◌, inl, inr, ◌==◌, ◌^◌, Bool, true, false, not, List, [], ◌∷◌, ◌++◌, refl, ap, sym, subst, ◌∙◌, Option, Some, None, unwrap_or, arith, length, ◌+◌, ◌≤◌}
+use Rattle.std.specs.Prelude.{count_by}
 use Rattle.std.proofs.lemmas.List.{append-nil}
 use Rattle.uss_vol4.specs.Volume.{Volume4D}
 use Rattle.uss_intent.specs.Identifiers.{ticket_number}
@@ -24,7 +25,7 @@ use Rattle.uss_law_dss.specs.Refusals.{is_cited, refusal_of}
 use Rattle.uss_law_dss.specs.Step.{put_recorded, landed, landing_of, after_put, after_remove, after_ticket_put, after_ticket_remove, service_step}
 use Rattle.uss_law_dss.specs.Effects.{Effect, Lands, Stays, TellsNoChange}
 use Rattle.uss_law_dss.specs.Effects.Effect.{lands, removes, makes_ticket, takes_ticket_out, stays}
-use Rattle.uss_law_dss.specs.Orderly.{IsOrderly, IsAsLanded}
+use Rattle.uss_law_dss.specs.Orderly.{IsOrderly, IsAsLanded, last_of}
 use Rattle.uss_law_dss.proofs.Lists.{has_push, has_left, has_last, has_filter, has_filtered, find_has, list_any_has, find_none}
 use Rattle.uss_law_dss.proofs.Tests.{same_number, equal_number, other_number, same_bytes, some_same, not_both}
 use Rattle.uss_law_dss.proofs.History.{last_has}
@@ -38,13 +39,14 @@ use Rattle.uss_law_world.specs.World.{World, book_of, name_of}
 use Rattle.uss_law_world.specs.World.Post.{Called, Replied}
 use Rattle.uss_law_world.specs.Moves.{after_call}
 use Rattle.uss_law_world.specs.Free.{AreSuppliers}
-use Rattle.uss_law_world.specs.Claims.{tag_in, IsLandingOf, is_unsettling}
+use Rattle.uss_law_world.specs.Claims.{tag_in, rank_of, IsLandingOf, is_unsettling}
 use Rattle.uss_law_world.proofs.Books.{legal_facts}
 use Rattle.uss_law_world.proofs.Lookups.{same_ticket}
 use Rattle.uss_law_world.proofs.Facts.{LandingFrom, RecordedFrom, AreApart, IsTriedPut, NamesHeld, IsTicketOf, CallFrom, ShowsLanding, RetiredBy, RefusedShows, ReplyShows, IsRecorded, IsStanding, Facts}
 use Rattle.uss_law_world.proofs.Grows.{Grows, News, kept, recorded_from, names_held, reply_shows, entered_still}
 use Rattle.uss_law_world.proofs.Parts.{at, attempt_manager, attempt_ticket, base_tag}
 use Rattle.uss_law_world.proofs.Jobs.{by_opening, landing_of_recorded, settled}
+use Rattle.uss_law_world.proofs.Ranks.{rank_kept, rank_of_new, rank_of_last}
 use Rattle.uss_law_world.proofs.Clear.{not_forbidden, forbidden_sym}
 use Rattle.uss_law_world.proofs.Replies.{Tells, tells, remove_retired, ticket_remove_retired, ticket_in_use, put_exists, put_stale, one_recorded, IsOtherwise}
 
@@ -52,6 +54,7 @@ use Rattle.uss_law_world.proofs.Replies.{Tells, tells, remove_retired, ticket_re
 pub record Taken (table : List ℕ) (owners : List Owner) (w : World) (k s : ℕ) (call : DssCall) (out : DssReply × Service) : Type 0 where
   pub service : IsOrderly out.1
   pub keeps_landings : (l : Landing) → Has w.service.landings l → Has out.1.landings l
+  pub keeps_ranks : (flight : ℕ) (l : Landing) → Has w.service.landings l → rank_of flight l.ovn out.1.landings ≡ rank_of flight l.ovn w.service.landings
   pub keeps_flights : (n : ℕ) → has_number n w.service.retired_flights ≡ true → has_number n out.1.retired_flights ≡ true
   pub keeps_tickets : (n : ℕ) → has_number n w.service.retired_tickets ≡ true → has_number n out.1.retired_tickets ≡ true
   pub shows : ReplyShows (after_call w k s call out) s call.job call.ask out.0
@@ -63,6 +66,7 @@ pub record Taken (table : List ℕ) (owners : List Owner) (w : World) (k s : ℕ
 -- the world grows by it
 record Keeps (w : World) (out : DssReply × Service) : Type 0 where
   landings : (l : Landing) → Has w.service.landings l → Has out.1.landings l
+  ranks : (flight : ℕ) (l : Landing) → Has w.service.landings l → rank_of flight l.ovn out.1.landings ≡ rank_of flight l.ovn w.service.landings
   flights : (n : ℕ) → has_number n w.service.retired_flights ≡ true → has_number n out.1.retired_flights ≡ true
   tickets : (n : ℕ) → has_number n w.service.retired_tickets ≡ true → has_number n out.1.retired_tickets ≡ true
 
@@ -73,6 +77,7 @@ call_grows w k s call out t =
       books = λ i. ([], sym (append-nil (book_of i w)));
       untried = λ i d h t m q. m;
       landings = t.landings;
+      ranks = t.ranks;
       flights = t.flights;
       tickets = t.tickets;
     }
@@ -84,7 +89,7 @@ pub taken_news : (table : List ℕ) (owners : List Owner) (w : World) (k s : ℕ
     → News table owners w (after_call w k s call out)
 taken_news table owners w k s call out t j =
     record {
-      grows = call_grows w k s call out (record { landings = t.keeps_landings; flights = t.keeps_flights; tickets = t.keeps_tickets });
+      grows = call_grows w k s call out (record { landings = t.keeps_landings; ranks = t.keeps_ranks; flights = t.keeps_flights; tickets = t.keeps_tickets });
       service = t.service;
       suppliers = j.suppliers;
       calls = λ i c h. elim (has_push w.posts _ _ h) [ inl old ↦ inl old | inr e ↦ cc ];
@@ -155,7 +160,7 @@ module _ (table : List ℕ) (owners : List Owner) (w : World) (names : AreSuppli
     has_new = has_last w.service.landings new
 
     grows : Grows w v
-    grows = call_grows w k s call _ (record { landings = λ m h. has_left w.service.landings (new ∷ []) m h; flights = λ n h. h; tickets = λ n h. h })
+    grows = call_grows w k s call _ (record { landings = λ m h. has_left w.service.landings (new ∷ []) m h; ranks = λ flight m h. rank_kept flight m.ovn w.service.landings (new ∷ []) m h refl; flights = λ n h. h; tickets = λ n h. h })
 
     from : LandingFrom v new
     from =
@@ -173,7 +178,13 @@ module _ (table : List ℕ) (owners : List Owner) (w : World) (names : AreSuppli
     record_new = record { s = s; attempt = a; found = found; flight = refl; manager = manager; state = refl; extents = refl; base = refl; ticket = refl }
 
     show : ShowsLanding v s made.reference
-    show o e = record { landing = new; landed = has_new; ovn = some_same new.ovn o e; manager = refl; tag_is = refl }
+    show o e = record { landing = new; landed = has_new; ovn = some_same new.ovn o e; manager = refl; tag_is = refl; rank = rank }
+      where
+        rank : rank_of new.flight new.ovn v.service.landings ≡ made.reference.version
+        rank =
+            let after : IsOrderly (after_put w.service (name_of s w) a.flight a.previous (extents_of a) a.state a.base a.ticket).1 = subst (λ (z : DssReply × Service). IsOrderly z.1) is orderly in
+            let few = after.few_landings in
+            rank_of_new a.flight 0 w.service.landings new after.numbered (omega (arith, few)) ∙ sym (after.versions made (put_there made w.service.references))
 
     -- what was recorded of the flight before
     pub before : (r : Recorded) → Has w.service.references r → r.reference.flight ≡ a.flight → (o : List ℕ) → r.reference.ovn ≡ Some o → a.previous ≡ Some o
@@ -238,6 +249,7 @@ module _ (table : List ℕ) (owners : List Owner) (w : World) (names : AreSuppli
         record {
           service = subst (λ (z : DssReply × Service). IsOrderly z.1) is orderly;
           keeps_landings = λ m h. has_left w.service.landings (new ∷ []) m h;
+          keeps_ranks = λ flight m h. rank_kept flight m.ovn w.service.landings (new ∷ []) m h refl;
           keeps_flights = λ n h. h;
           keeps_tickets = λ n h. h;
           shows = show;
@@ -264,6 +276,7 @@ module _ (table : List ℕ) (owners : List Owner) (w : World) (names : AreSuppli
         record {
           service = orderly;
           keeps_landings = λ l h. subst (λ ls. Has ls l) (sym same) h;
+          keeps_ranks = λ flight l h. ap (rank_of flight l.ovn) same;
           keeps_flights = flights;
           keeps_tickets = tickets;
           shows = shows;
@@ -286,7 +299,7 @@ module _ (table : List ℕ) (owners : List Owner) (w : World) (names : AreSuppli
     gone = after_remove w.service (name_of s w) r
 
     grows_gone : Grows w (after_call w k s call gone)
-    grows_gone = call_grows w k s call gone (record { landings = λ l h. h; flights = λ n h. pushed_before n r.reference.flight w.service.retired_flights h; tickets = λ n h. h })
+    grows_gone = call_grows w k s call gone (record { landings = λ l h. h; ranks = λ flight l h. refl; flights = λ n h. pushed_before n r.reference.flight w.service.retired_flights h; tickets = λ n h. h })
 
     there : Has w.service.references r × ((r.reference.flight == flight) ≡ true)
     there = find_has (λ (z : Recorded). z.reference.flight == flight) w.service.references r found
@@ -320,7 +333,7 @@ module _ (table : List ℕ) (owners : List Owner) (w : World) (names : AreSuppli
       → Taken table owners w k s call (after_ticket_put w.service client ticket area base)
   ticket_put_taken client ticket area base o =
       let out = after_ticket_put w.service client ticket area base in
-      let g = call_grows w k s call out (record { landings = λ l h. h; flights = λ n h. h; tickets = λ n h. h }) in
+      let g = call_grows w k s call out (record { landings = λ l h. h; ranks = λ flight l h. refl; flights = λ n h. h; tickets = λ n h. h }) in
       quiet_taken out o refl (λ q h. h) (λ n h. h) (λ n h. h) tt (still out g (λ r h. h))
 
   pub ticket_remove_taken : (id : ℕ) (t : Ticket) → call.ask ≡ Asks.TicketRemove id 1 → ticket_of id w.service ≡ Some t → IsOrderly (after_ticket_remove w.service t).1
@@ -328,13 +341,20 @@ module _ (table : List ℕ) (owners : List Owner) (w : World) (names : AreSuppli
   ticket_remove_taken id t is found o =
       let out = after_ticket_remove w.service t in
       let tickets : (n : ℕ) → has_number n w.service.retired_tickets ≡ true → has_number n (w.service.retired_tickets ++ t.id ∷ []) ≡ true = λ n h. pushed_before n t.id w.service.retired_tickets h in
-      let g = call_grows w k s call out (record { landings = λ l h. h; flights = λ n h. h; tickets = tickets }) in
+      let g = call_grows w k s call out (record { landings = λ l h. h; ranks = λ flight l h. refl; flights = λ n h. h; tickets = tickets }) in
       let e : t.id ≡ id = same_number t.id id (find_has (λ (z : Ticket). z.id == id) w.service.tickets t found).1 in
       let shows : RetiredBy (after_call w k s call out) call.ask =
       subst (RetiredBy (after_call w k s call out)) (sym is) (subst (λ n. has_number n (w.service.retired_tickets ++ t.id ∷ []) ≡ true) e (pushed_in t.id w.service.retired_tickets)) in
       quiet_taken out o refl (λ q h. h) (λ n h. h) tickets shows (still out g (λ r h. h))
 
   -- a reference that is got shows a landing of its manager
+  rank_here : (q : Recorded) → Has w.service.references q → (m : Landing) → last_of q.reference.flight w.service.landings ≡ Some m → q.reference.flight ≡ m.flight
+      → rank_of m.flight m.ovn w.service.landings ≡ count_by (λ (z : Landing). z.flight == q.reference.flight) w.service.landings
+  rank_here q h m e f =
+      let few = j.service.few_landings in
+      subst (λ n. rank_of n m.ovn w.service.landings ≡ count_by (λ (z : Landing). z.flight == q.reference.flight) w.service.landings) f
+      (rank_of_last q.reference.flight 0 w.service.landings m j.service.numbered (omega (arith, few)) e)
+
   got_shows : (reply : Reference) → (q : Recorded) → Has w.service.references q → reply ≡ shown_to (name_of s w) q.reference → ShowsLanding w s reply
   got_shows reply q h e = go (same_text q.reference.manager (name_of s w)) refl
     where
@@ -350,6 +370,7 @@ module _ (table : List ℕ) (owners : List Owner) (w : World) (names : AreSuppli
             ovn = some_same m.0.ovn o (sym i.ovn ∙ (ap (λ (z : Reference). z.ovn) (sym same) ∙ n));
             manager = sym i.manager ∙ c;
             tag_is = i.tag ∙ ap (λ (z : Reference). tag_in z) (sym same);
+            rank = rank_here q h m.0 m.1 i.flight ∙ (sym (j.service.versions q h) ∙ ap (λ (z : Reference). z.version) (sym same));
           }
       go false y o n =
           let hidden : reply.ovn ≡ None = ap (λ (z : Reference). z.ovn) e ∙ rw y refl in
@@ -431,7 +452,7 @@ module _ (table : List ℕ) (owners : List Owner) (w : World) (names : AreSuppli
       let keeps_flights : (n : ℕ) → has_number n w.service.retired_flights ≡ true → has_number n out.1.retired_flights ≡ true = λ n h. subst (λ (z : Service). has_number n z.retired_flights ≡ true) (sym st.same) h in
       let keeps_tickets : (n : ℕ) → has_number n w.service.retired_tickets ≡ true → has_number n out.1.retired_tickets ≡ true = λ n h. subst (λ (z : Service). has_number n z.retired_tickets ≡ true) (sym st.same) h in
       let same : out.1.landings ≡ w.service.landings = ap (λ (z : Service). z.landings) st.same in
-      let g = call_grows w k s call out (record { landings = λ l h. subst (λ (ls : List Landing). Has ls l) (sym same) h; flights = keeps_flights; tickets = keeps_tickets }) in
+      let g = call_grows w k s call out (record { landings = λ l h. subst (λ (ls : List Landing). Has ls l) (sym same) h; ranks = λ flight l h. ap (rank_of flight l.ovn) same; flights = keeps_flights; tickets = keeps_tickets }) in
       quiet_taken out o same (λ r h. subst (λ (z : Service). Has z.references r) st.same h) keeps_flights keeps_tickets
       (reply_shows g s call.job call.ask out.0 (stays_shows call.ask p out.0 t st.reply))
       (still out g (λ r h. subst (λ (z : Service). Has z.references r) (sym st.same) h))

@@ -133,7 +133,7 @@ module _ (table : List ℕ) (owners : List Owner) (w : World) (names : AreSuppli
       let m = c.made in
       let e : Some m.ovn ≡ Some o.0 = made_ovn c.pair m ∙ c.ovn_is in
       let n : q.reference.ovn ≡ Some m.ovn = ovn_of_key q.reference.ovn o.0 o.2 ∙ sym e in
-      let same : f.attempt ≡ m.attempt = landed_as table owners w names j q h f m.s m.attempt m.ovn m.found m.landing n in
+      let same : f.attempt ≡ m.attempt = landed_as table owners w names j q h f m.s m.attempt m.ovn m.version m.found m.landing n in
       let v : verdict table (candidate_of a) (recorded_as m.attempt m.ovn m.version) c.previous ≡ Clear = subst (λ z. verdict table (candidate_of a) z c.previous ≡ Clear) m.is c.clear in
       record {
         ovn = m.ovn;
@@ -162,7 +162,7 @@ module _ (table : List ℕ) (owners : List Owner) (w : World) (names : AreSuppli
       at_pair p m q e None y k o = absurd k
       at_pair p m q e (Some z) y k o =
           let f = j.recorded q (there q e) in
-          let same : f.attempt ≡ m.attempt = landed_as table owners w names j q (there q e) f m.s m.attempt m.ovn m.found m.landing (was q e ∙ sym o) in
+          let same : f.attempt ≡ m.attempt = landed_as table owners w names j q (there q e) f m.s m.attempt m.ovn m.version m.found m.landing (was q e ∙ sym o) in
           let is : z ≡ m.attempt = sym (intent_is table owners w names j q z f k) ∙ same in
           decide (is_excepted (candidate_of a) (recorded_as b c.ovn c.version) (Some p)) refl is
         where

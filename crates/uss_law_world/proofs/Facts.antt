@@ -36,7 +36,7 @@ use Rattle.uss_law_duty.specs.Entered.{candidate_of}
 use Rattle.uss_law_duty.specs.Answers.{is_final, by_trial, by_end}
 use Rattle.uss_law_world.specs.World.{Supplier, Saying, World, supplier_in, book_of, heard_of, name_of}
 use Rattle.uss_law_world.specs.World.Post.{Called, Replied, Asked, Answered}
-use Rattle.uss_law_world.specs.Claims.{tag_in, Forbidden, IsLandingOf, is_unsettling}
+use Rattle.uss_law_world.specs.Claims.{tag_in, rank_of, Forbidden, IsLandingOf, is_unsettling}
 
 -- a supplier is one of the owners, and has a legal book of its own
 pub record IsSound (owners : List Owner) (x : Supplier) : Type 0 where
@@ -44,13 +44,14 @@ pub record IsSound (owners : List Owner) (x : Supplier) : Type 0 where
   pub own : owner_of x.book ≡ Some x.owner
   pub one : Has owners x.owner
 
--- a landing with this OVN, of this supplier with this tag
-pub record HasLanding (w : World) (s tag : ℕ) (o : List ℕ) : Type 0 where
+-- a landing with this OVN, of this supplier with this tag, and so many of its flight up to it
+pub record HasLanding (w : World) (s tag : ℕ) (o : List ℕ) (n : ℕ) : Type 0 where
   pub landing : Landing
   pub landed : Has w.service.landings landing
   pub ovn : landing.ovn ≡ o
   pub manager : landing.manager ≡ name_of s w
   pub tag_is : landing.tag ≡ tag
+  pub rank : rank_of landing.flight landing.ovn w.service.landings ≡ n
 
 -- a pair is an attempt as it landed
 pub record IsMade (w : World) (p : OperationalIntent) : Type 0 where
@@ -60,7 +61,7 @@ pub record IsMade (w : World) (p : OperationalIntent) : Type 0 where
   pub version : ℕ
   pub found : attempt_of attempt.tag (book_of s w) ≡ Some attempt
   pub is : p ≡ recorded_as attempt ovn version
-  pub landing : HasLanding w s attempt.tag ovn
+  pub landing : HasLanding w s attempt.tag ovn version
 
 -- a landing is that of an attempt
 pub record LandingFrom (w : World) (l : Landing) : Type 0 where
@@ -116,7 +117,7 @@ CallFrom w s job _ = Unit {0}
 
 -- an OVN that a reply shows is that of a landing
 abbrev pub ShowsLanding : World → ℕ → Reference → Type 0
-ShowsLanding w s r = (o : List ℕ) → r.ovn ≡ Some o → HasLanding w s (tag_in r) o
+ShowsLanding w s r = (o : List ℕ) → r.ovn ≡ Some o → HasLanding w s (tag_in r) o r.version
 
 -- what the call names was removed
 abbrev pub RetiredBy : World → DssAsk → Type 0
@@ -209,7 +210,7 @@ pub record Facts (table : List ℕ) (owners : List Owner) (w : World) : Type 0 w
   pub served : (s k : ℕ) (call : PeerCall) (p : OperationalIntent) → Has w.posts (Answered s k call (Peers.Served p)) → IsMade w p
   pub notes : (s : ℕ) (to : Option ℕ) (job place : ℕ) (base : List ℕ) (note : Note) (p : OperationalIntent) → Has w.posts (Asked s to (Calls.Notify job place base note)) → note.pair ≡ Some p → IsMade w p
   pub heard : (s : ℕ) (p : OperationalIntent) → Has (heard_of s w) (Heard p) → IsMade w p
-  pub entered : (s : ℕ) (h : Holding) → Has (holdings (book_of s w)) h → HasLanding w s h.tag h.ovn
+  pub entered : (s : ℕ) (h : Holding) → Has (holdings (book_of s w)) h → HasLanding w s h.tag h.ovn h.version
   pub keys : (s tag : ℕ) (a : Attempted) → attempt_of tag (book_of s w) ≡ Some a → is_strategic a.state ≡ true → (o : List ℕ) → Has a.key o → IsClearOvn table w a o
   pub landings : (l : Landing) → Has w.service.landings l → LandingFrom w l
   pub recorded : (r : Recorded) → Has w.service.references r → RecordedFrom w r

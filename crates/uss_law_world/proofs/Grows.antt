@@ -29,7 +29,7 @@ use Rattle.uss_law_book.proofs.Attempts.{attempt_kept, trial_kept}
 use Rattle.uss_law_duty.specs.Heard.News.{Heard}
 use Rattle.uss_law_world.specs.World.{Supplier, Saying, World, supplier_in, book_of, heard_of, name_of}
 use Rattle.uss_law_world.specs.World.Post.{Called, Replied, Asked, Answered}
-use Rattle.uss_law_world.specs.Claims.{tag_in, IsLandingOf}
+use Rattle.uss_law_world.specs.Claims.{tag_in, rank_of, IsLandingOf}
 use Rattle.uss_law_world.proofs.Books.{holding_stays, ending_stays}
 use Rattle.uss_law_world.proofs.Facts.{IsSound, HasLanding, IsMade, LandingFrom, RecordedFrom, AreApart, NamesHeld, CallFrom, ShowsLanding, RetiredBy, ReplyShows, IsClearOvn, IsEntered, IsStanding, EndingShows, SaidIsKept, Facts}
 
@@ -39,6 +39,7 @@ pub record Grows (w v : World) : Type 0 where
   pub books : (s : ℕ) → (more : List Entry) × (book_of s v ≡ book_of s w ++ more)
   pub untried : (s : ℕ) (d : Closing) → Has (endings (book_of s w)) d → (t : Trial) → Has (trials (book_of s v)) t → t.job ≡ d.job → Has (trials (book_of s w)) t
   pub landings : (l : Landing) → Has w.service.landings l → Has v.service.landings l
+  pub ranks : (flight : ℕ) (l : Landing) → Has w.service.landings l → rank_of flight l.ovn v.service.landings ≡ rank_of flight l.ovn w.service.landings
   pub flights : (n : ℕ) → has_number n w.service.retired_flights ≡ true → has_number n v.service.retired_flights ≡ true
   pub tickets : (n : ℕ) → has_number n w.service.retired_tickets ≡ true → has_number n v.service.retired_tickets ≡ true
 
@@ -65,9 +66,9 @@ module _ {w v : World} (g : Grows w v) where
   closed : (s job : ℕ) → is_closed job (book_of s w) ≡ true → is_closed job (book_of s v) ≡ true
   closed s job k = in_book s (λ b. is_closed job b ≡ true) (λ more. closed_by_either job (book_of s w) more ∙ rw k refl)
 
-  pub has_landing : (s tag : ℕ) (o : List ℕ) → HasLanding w s tag o → HasLanding v s tag o
-  has_landing s tag o h =
-      record { landing = h.landing; landed = g.landings h.landing h.landed; ovn = h.ovn; manager = h.manager ∙ sym (g.names s); tag_is = h.tag_is }
+  pub has_landing : (s tag : ℕ) (o : List ℕ) (n : ℕ) → HasLanding w s tag o n → HasLanding v s tag o n
+  has_landing s tag o n h =
+      record { landing = h.landing; landed = g.landings h.landing h.landed; ovn = h.ovn; manager = h.manager ∙ sym (g.names s); tag_is = h.tag_is; rank = g.ranks h.landing.flight h.landing h.landed ∙ h.rank }
 
   pub made : (p : OperationalIntent) → IsMade w p → IsMade v p
   made p h =
@@ -78,7 +79,7 @@ module _ {w v : World} (g : Grows w v) where
         version = h.version;
         found = attempt h.s h.attempt.tag h.attempt h.found;
         is = h.is;
-        landing = has_landing h.s h.attempt.tag h.ovn h.landing;
+        landing = has_landing h.s h.attempt.tag h.ovn h.version h.landing;
       }
 
   pub landing_from : (l : Landing) → LandingFrom w l → LandingFrom v l
@@ -126,7 +127,7 @@ module _ {w v : World} (g : Grows w v) where
       record { there = g.landings l h.there; manager = h.manager ∙ sym (g.names s); trial = h.trial; tried = trial s h.trial h.tried; job_is = h.job_is; tag = h.tag }
 
   shows : (s : ℕ) (r : Reference) → ShowsLanding w s r → ShowsLanding v s r
-  shows s r h = λ o e. has_landing s (tag_in r) o (h o e)
+  shows s r h = λ o e. has_landing s (tag_in r) o r.version (h o e)
 
   pub retired : (ask : DssAsk) → RetiredBy w ask → RetiredBy v ask
   retired (Asks.Remove flight ovn) h = g.flights flight h
@@ -205,7 +206,7 @@ pub record News (table : List ℕ) (owners : List Owner) (w v : World) : Type 0 
   pub notes : (s : ℕ) (to : Option ℕ) (job place : ℕ) (base : List ℕ) (note : Note) (p : OperationalIntent) → Has v.posts (Asked s to (Calls.Notify job place base note)) → note.pair ≡ Some p
       → Has w.posts (Asked s to (Calls.Notify job place base note)) ⊎ IsMade v p
   pub heard : (s : ℕ) (p : OperationalIntent) → Has (heard_of s v) (Heard p) → Has (heard_of s w) (Heard p) ⊎ IsMade v p
-  pub entered : (s : ℕ) (h : Holding) → Has (holdings (book_of s v)) h → Has (holdings (book_of s w)) h ⊎ HasLanding v s h.tag h.ovn
+  pub entered : (s : ℕ) (h : Holding) → Has (holdings (book_of s v)) h → Has (holdings (book_of s w)) h ⊎ HasLanding v s h.tag h.ovn h.version
   pub keys : (s tag : ℕ) (a : Attempted) → attempt_of tag (book_of s v) ≡ Some a
       → (attempt_of tag (book_of s w) ≡ Some a) ⊎ (is_strategic a.state ≡ true → (o : List ℕ) → Has a.key o → IsClearOvn table v a o)
   pub landings : (l : Landing) → Has v.service.landings l → Has w.service.landings l ⊎ LandingFrom v l
@@ -226,7 +227,7 @@ kept table owners w v n j =
       served = λ s k call p h. elim (n.served s k call p h) [ inl old ↦ made g p (j.served s k call p old) | inr new ↦ new ];
       notes = λ s to job place base note p h e. elim (n.notes s to job place base note p h e) [ inl old ↦ made g p (j.notes s to job place base note p old e) | inr new ↦ new ];
       heard = λ s p h. elim (n.heard s p h) [ inl old ↦ made g p (j.heard s p old) | inr new ↦ new ];
-      entered = λ s h k. elim (n.entered s h k) [ inl old ↦ has_landing g s h.tag h.ovn (j.entered s h old) | inr new ↦ new ];
+      entered = λ s h k. elim (n.entered s h k) [ inl old ↦ has_landing g s h.tag h.ovn h.version (j.entered s h old) | inr new ↦ new ];
       keys = λ s tag a h k o i. elim (n.keys s tag a h) [ inl old ↦ clear_ovn g table a o (j.keys s tag a old k o i) | inr new ↦ new k o i ];
       landings = λ l h. elim (n.landings l h) [ inl old ↦ landing_from g l (j.landings l old) | inr new ↦ new ];
       recorded = λ r h. elim (n.recorded r h) [ inl old ↦ recorded_from g r (j.recorded r old) | inr new ↦ new ];

@@ -7,6 +7,7 @@ use Rattle.uss_intent.specs.declared.records.Landing.{Landing}
 use Rattle.uss_intent.specs.declared.records.Subscriber.{Subscriber}
 use Rattle.uss_intent.specs.declared.calls.DssReply.{DssReply}
 use Rattle.uss_intent.specs.declared.calls.DssReply.TheVariants as Replies
+use Rattle.uss_event.specs.Pairs.{OperationalIntent}
 use Rattle.uss_event.specs.declared.entries.Owner.{Owner}
 use Rattle.uss_event.specs.declared.entries.Entry.{Entry}
 use Rattle.uss_event.specs.declared.calls.DssCall.{DssCall}
@@ -23,25 +24,31 @@ use Rattle.uss_law_dss.proofs.Ovns.{ovns_differ}
 use Rattle.uss_law_dss.proofs.EachEffect.{effect}
 use Rattle.uss_law_dss.proofs.EachOrderly.{step_orderly}
 use Rattle.uss_law_book.specs.Lists.{Trial, openings, trials}
-use Rattle.uss_law_book.specs.Readings.{is_closed, owns}
-use Rattle.uss_law_book.specs.Attempts.{Attempted, attempt_of, extents_of, put_of}
+use Rattle.uss_law_book.specs.Readings.{is_closed, owns, holding, holdings_of, has_ended}
+use Rattle.uss_law_book.specs.Attempts.{Attempted, attempt_of, extents_of, put_of, recorded_as, held}
 use Rattle.uss_law_book.proofs.Finds.{none_filtered}
 use Rattle.uss_law_book.proofs.Kept.{open_parts, held_closes}
-use Rattle.uss_law_book.proofs.EachOrderly.{owned}
+use Rattle.uss_law_book.proofs.EachOrderly.{owned, legal_is_orderly}
 use Rattle.uss_law_dss.proofs.Lists.{any_true}
 use Rattle.uss_law_world.specs.World.{Supplier, World, supplier_in, book_in, book_of, name_of, start}
 use Rattle.uss_law_world.specs.World.Post.{Called}
 use Rattle.uss_law_world.specs.Moves.{Move, run}
 use Rattle.uss_law_world.specs.Free.{AreSuppliers, IsFree}
-use Rattle.uss_law_world.specs.Claims.{tag_in, EachIsIntended, Forbidden, NoneForbidden, IsClearAtLanding, LandingsAreClear, IsLandingOf, landings_of, is_request, EachAtMostOnce, FinalAnswersAreTrue, RefusalsAreSettled}
+use Rattle.uss_law_world.specs.Claims.{tag_in, EachIsIntended, IsMade, EachPairIsMade, Forbidden, NoneForbidden, IsClearAtLanding, LandingsAreClear, IsLandingOf, landings_of, is_request, EachAtMostOnce, FinalAnswersAreTrue, RefusalsAreSettled, OpenLandingsStay}
 use Rattle.uss_law_world.proofs.Books.{legal_facts}
 use Rattle.uss_law_world.proofs.Facts.{Facts}
-use Rattle.uss_law_world.proofs.Parts.{stands, intent_is, intended, is_record, base_tag}
+use Rattle.uss_law_world.proofs.Facts as Made
+use Rattle.uss_law_world.proofs.Acts.{held_made}
+use Rattle.uss_law_world.proofs.Parts.{stands, attempt_manager, one_attempt, intent_is, intended, is_record, base_tag}
 use Rattle.uss_law_world.proofs.Clear.{stands_clear}
 use Rattle.uss_law_world.proofs.Jobs.{one_of_job, held_or_recorded}
 use Rattle.uss_law_world.proofs.Calls.{is_tried, put_out, keyed, before, fields}
 use Rattle.uss_law_world.proofs.Runs.{reached_facts, run_append}
 use Rattle.uss_law_world.proofs.Answers.{run_says, said_is_true}
+
+nothing_held : (flight : ℕ) (p : OperationalIntent) → held flight [] ≡ Some p → ⊥
+unfolding held holding holdings_of has_ended
+nothing_held flight p h = cc
 
 -- of a numbered history, what two items can't both be is at most one
 at_most_one : (p : Landing → Bool) (n : ℕ) (ls : List Landing) → AreNumbered n ls → n + length ls < 10 ^ 16
@@ -178,6 +185,50 @@ module _ (table : List ℕ) (owners : List Owner) (w : World) (names : AreSuppli
         ]
       ]
 
+  -- a made pair, told by its landing
+  pair_is_made : (p : OperationalIntent) → Made.IsMade w p → IsMade w p
+  pair_is_made p m =
+      let f = j.landings m.landing.landing m.landing.landed in
+      let manager : m.landing.landing.manager ≡ m.attempt.manager = m.landing.manager ∙ sym (attempt_manager table owners w names j m.s m.attempt.tag m.attempt m.found) in
+      let same : f.attempt ≡ m.attempt = one_attempt table owners w names j f.s m.s m.landing.landing.tag m.attempt.tag f.attempt m.attempt f.found m.found (sym f.manager ∙ manager) m.landing.tag_is in
+      record {
+        supplier = m.s;
+        attempt = m.attempt;
+        landing = m.landing.landing;
+        version = m.version;
+        found = m.found;
+        landed = m.landing.landed;
+        manager = manager;
+        flight = f.flight ∙ ap (λ (z : Attempted). z.flight) same;
+        tag = m.landing.tag_is;
+        rank = m.landing.rank;
+        is = m.is ∙ ap (λ o. recorded_as m.attempt o m.version) (sym m.landing.ovn);
+      }
+
+  pub each_pair_is_made : EachPairIsMade w
+  each_pair_is_made =
+      record {
+        held = λ s flight p h. held_by s flight p h (supplier_in s w.suppliers) refl;
+        heard = λ s p h. pair_is_made p (j.heard s p h);
+        served = λ s k call p h. pair_is_made p (j.served s k call p h);
+        noted = λ s to job place base note p h e. pair_is_made p (j.notes s to job place base note p h e);
+      }
+    where
+      held_by : (s flight : ℕ) (p : OperationalIntent) → held flight (book_of s w) ≡ Some p → (y : Option Supplier) → supplier_in s w.suppliers ≡ y → IsMade w p
+      held_by s flight p h None e = absurd (nothing_held flight p (subst (λ (z : Option Supplier). held flight (book_in z) ≡ Some p) e h))
+      held_by s flight p h (Some x) e =
+          let st = stands table owners w j s x e in
+          pair_is_made p (held_made w s (book_of s w) (legal_is_orderly (book_of s w) st.legal) refl (j.entered s) p (record { flight = flight; is = h }))
+
+  -- while a job is open, its landing stays recorded
+  pub open_landings_stay : OpenLandingsStay w
+  open_landings_stay s job l open_ a =
+      let o = open_parts (book_of s w) job open_ in
+      elim (held_or_recorded table owners w names j s job l a) [
+        | inl k ↦ absurd (held_closes (book_of s w) k.holding k.entered (subst (λ z. is_closed z (book_of s w) ≡ false) (sym k.job_is) o.2))
+        | inr r ↦ (r.recorded, r.there, r.ovn_is)
+      ]
+
 -- the claims of every free list of moves
 module _ (table : List ℕ) (owners : List Owner) (names : AreSuppliers table owners) (ms : List Move) (free : IsFree (start owners) ms) where
   abbrev w : World
@@ -197,6 +248,12 @@ module _ (table : List ℕ) (owners : List Owner) (names : AreSuppliers table ow
 
   pub settled_after : RefusalsAreSettled w
   settled_after = refusals_are_settled table owners w names (reached_facts table owners names ms free)
+
+  pub made_after : EachPairIsMade w
+  made_after = each_pair_is_made table owners w names (reached_facts table owners names ms free)
+
+  pub stay_after : OpenLandingsStay w
+  stay_after = open_landings_stay table owners w names (reached_facts table owners names ms free)
 
   pub true_now : FinalAnswersAreTrue w w
   true_now = said_is_true table owners w names (reached_facts table owners names ms free)

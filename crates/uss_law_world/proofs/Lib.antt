@@ -5,6 +5,7 @@ pub mod Grows
 pub mod Parts
 pub mod Clear
 pub mod Jobs
+pub mod Ranks
 pub mod Replies
 pub mod Calls
 pub mod Acts
@@ -12,3 +13,6 @@ pub mod Start
 pub mod Runs
 pub mod Answers
 pub mod Headline
+pub mod Second
+pub mod WorkedRuns
+pub mod Product

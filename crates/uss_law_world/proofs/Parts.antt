@@ -1,5 +1,8 @@
 -- An attempt, a landing and a recorded reference tell of each other.
-use Rattle.std.proofs.Common.{ℕ, List, [], ◌≡◌, refl, ap, sym, subst, ◌∙◌, Option, Some, None, slice_get, unwrap_or}
+use Rattle.std.proofs.Common.{ℕ, List, [], ◌≡◌, refl, ap, sym, subst, ◌∙◌, Option, Some, None, slice_get, unwrap_or, ◌==◌}
+use Rattle.std.specs.Prelude.{count_by}
+use Rattle.uss_vol4.specs.Volume.{Volume4D}
+use Rattle.uss_vol4.specs.Bounding.{bounding_box}
 use Rattle.std.specs.Option.{option_map}
 use Rattle.uss_intent.specs.Identifiers.{flight_number, ticket_number}
 use Rattle.uss_intent.specs.Texts.{tagged_base}
@@ -200,6 +203,9 @@ module _ (table : List ℕ) (owners : List Owner) (w : World) (names : AreSuppli
         extents = f.extents;
         base = f.base;
         ticket = f.ticket;
+        start = j.service.start r h ∙ ap (λ (z : List Volume4D). (bounding_box z).start) f.extents;
+        end = j.service.end r h ∙ ap (λ (z : List Volume4D). (bounding_box z).end) f.extents;
+        version = subst (λ n. r.reference.version ≡ count_by (λ (z : Landing). z.flight == n) w.service.landings) f.flight (j.service.versions r h);
         landing = l.0;
         landed = l.1;
         ovn = l.2;
@@ -209,9 +215,9 @@ module _ (table : List ℕ) (owners : List Owner) (w : World) (names : AreSuppli
       }
 
   -- the attempt of a landing with an OVN is that of a recorded reference with this OVN
-  pub landed_as : (r : Recorded) → Has w.service.references r → (f : RecordedFrom w r) → (s : ℕ) (b : Attempted) (o : List ℕ) → attempt_of b.tag (book_of s w) ≡ Some b → HasLanding w s b.tag o
+  pub landed_as : (r : Recorded) → Has w.service.references r → (f : RecordedFrom w r) → (s : ℕ) (b : Attempted) (o : List ℕ) (version : ℕ) → attempt_of b.tag (book_of s w) ≡ Some b → HasLanding w s b.tag o version
       → r.reference.ovn ≡ Some o → f.attempt ≡ b
-  landed_as r h f s b o k l e =
+  landed_as r h f s b o version k l e =
       let m = recorded_landing r h f in
       let n : m.0.ovn ≡ l.landing.ovn = some_same m.0.ovn o (sym m.2 ∙ e) ∙ sym l.ovn in
       let same : m.0 ≡ l.landing = one_landing w.service j.service m.0 l.landing m.1 l.landed n in

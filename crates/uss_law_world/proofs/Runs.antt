@@ -21,6 +21,7 @@ use Rattle.uss_law_world.specs.World.Post.{Called, Replied, Asked, Answered}
 use Rattle.uss_law_world.specs.Moves.{Choice, Move, Arrival, event_by, arrival_by, arrival_of, fault_by, fault_of, posts_of, restarted, after_step, after_restart, arrives, brings, marked, comes, delivers, takes, next_message, delivers_next, drains, marked_by, stops, happens, run}
 use Rattle.uss_law_world.specs.Moves.{Move as Moves}
 use Rattle.uss_law_world.specs.Free.{AreSuppliers, MayTake, MayDrain, arrival_of_next, MayStop, IsAllowed, IsFree}
+use Rattle.uss_law_world.specs.Claims.{rank_of}
 use Rattle.uss_law_world.proofs.Lookups.{at_any}
 use Rattle.uss_law_world.proofs.Facts.{IsSound, IsStanding, Facts}
 use Rattle.uss_law_world.proofs.Grows.{Grows, News, kept, entered_still}
@@ -48,6 +49,7 @@ same_facts table owners w v q j = kept table owners w v news j
           books = λ k. ([], q.books k ∙ sym (append-nil (book_of k w)));
           untried = λ k d h t n e. subst (λ b. Has (trials b) t) (q.books k) n;
           landings = λ l h. subst (λ (z : Service). Has z.landings l) (sym q.service) h;
+          ranks = λ flight l h. ap (λ (z : Service). rank_of flight l.ovn z.landings) q.service;
           flights = λ n h. subst (λ (z : Service). has_number n z.retired_flights ≡ true) (sym q.service) h;
           tickets = λ n h. subst (λ (z : Service). has_number n z.retired_tickets ≡ true) (sym q.service) h;
         }

@@ -99,7 +99,7 @@ module _ (table : List ℕ) (owners : List Owner) (names : AreSuppliers table ow
         served = λ s k call p h. absurd h;
         notes = λ s to job place base note p h e. absurd h;
         heard = λ s p. at_new s (λ x. Has (heard_in x) (Heard p) → IsMade w p) (λ h. absurd h) (λ o h. absurd h);
-        entered = λ s k. at_new s (λ x. Has (holdings (book_in x)) k → HasLanding w s k.tag k.ovn) (λ h. absurd h) (λ o h. absurd h);
+        entered = λ s k. at_new s (λ x. Has (holdings (book_in x)) k → HasLanding w s k.tag k.ovn k.version) (λ h. absurd h) (λ o h. absurd h);
         keys = λ s tag a. at_new s (λ x. attempt_of tag (book_in x) ≡ Some a → is_strategic a.state ≡ true → (o : List ℕ) → Has a.key o → IsClearOvn table w a o) (λ h k o i. absurd (none_tried tag a h)) (λ o h k z i. absurd (no_attempt tag o a h));
         landings = λ l h. absurd h;
         recorded = λ r h. absurd h;

@@ -1,7 +1,8 @@
 -- What is claimed of the world after every free list of moves. Strategic conflict detection is after ASTM F3548-21; the table of rules,
 -- the exception for an Activated intent and the answers are this project's own.
-use Rattle.std.specs.Prelude.{ℕ, ◌≤◌, ◌<◌, ◌≡◌, ◌≢◌, Bool, true, false, ◌&&◌, ◌==◌, List, filter, length, Option, Some, None, unwrap_or}
+use Rattle.std.specs.Prelude.{ℕ, ◌≤◌, ◌<◌, ◌≡◌, ◌≢◌, Bool, true, false, ◌&&◌, ◌==◌, List, filter, length, Option, Some, None, unwrap_or, count_by, if◌then◌else◌, ◌+◌, [], ◌∷◌}
 use Rattle.uss_vol4.specs.Volume.{ListsShare}
+use Rattle.uss_vol4.specs.Bounding.{bounding_box}
 use Rattle.uss_intent.specs.Tags.{tag_of}
 use Rattle.uss_intent.specs.Same.{same_text}
 use Rattle.uss_intent.specs.declared.records.Recorded.{Recorded}
@@ -14,9 +15,14 @@ use Rattle.uss_intent.specs.declared.calls.DssAsk.TheVariants as Asks
 use Rattle.uss_intent.specs.declared.calls.DssReply.TheVariants as Replies
 use Rattle.uss_intent.specs.declared.calls.DssRefusal.{DssRefusal}
 use Rattle.uss_intent.specs.declared.calls.DssRefusal.TheVariants as Refuses
+use Rattle.uss_event.specs.Pairs.{OperationalIntent}
 use Rattle.uss_event.specs.Rules.{is_listed}
 use Rattle.uss_event.specs.Verdicts.{is_strategic}
 use Rattle.uss_event.specs.declared.calls.DssCall.{DssCall}
+use Rattle.uss_event.specs.declared.calls.Note.{Note}
+use Rattle.uss_event.specs.declared.calls.PeerCall.{PeerCall}
+use Rattle.uss_event.specs.declared.calls.PeerCall.TheVariants as Calls
+use Rattle.uss_event.specs.declared.calls.PeerReply.TheVariants as Peers
 use Rattle.uss_event.specs.declared.events.Answer.{Answer}
 use Rattle.uss_event.specs.declared.events.Answer.TheVariants as Answers
 use Rattle.uss_event.specs.declared.events.Said.{Said}
@@ -26,10 +32,11 @@ use Rattle.uss_law_dss.specs.Service.{has_number, recorded_of}
 use Rattle.uss_law_dss.specs.Step.{service_step}
 use Rattle.uss_law_book.specs.Lists.{Opening, Trial, openings, trials}
 use Rattle.uss_law_book.specs.Readings.{is_open, owns}
-use Rattle.uss_law_book.specs.Attempts.{Attempted, attempt_of, extents_of}
+use Rattle.uss_law_book.specs.Attempts.{Attempted, attempt_of, extents_of, recorded_as, held}
+use Rattle.uss_law_duty.specs.Heard.News.{Heard}
 use Rattle.uss_law_duty.specs.Answers.{is_final, job_of_request}
-use Rattle.uss_law_world.specs.World.{World, Saying, book_of, name_of}
-use Rattle.uss_law_world.specs.World.Post.{Called, Replied}
+use Rattle.uss_law_world.specs.World.{World, Saying, book_of, heard_of, name_of}
+use Rattle.uss_law_world.specs.World.Post.{Called, Replied, Asked, Answered}
 
 -- the tag that a reference's base URL ends in, and 0 where it has none
 abbrev pub tag_in : Reference → ℕ
@@ -49,6 +56,10 @@ pub record IsRecordOf (w : World) (r : Recorded) (a : Attempted) : Type 0 where
   pub extents : r.extents ≡ extents_of a
   pub base : r.reference.base ≡ a.base
   pub ticket : r.reference.ticket ≡ a.ticket
+  -- from the least start of its extents to their greatest end; its version counts the flight's landings
+  pub start : r.reference.start ≡ (bounding_box (extents_of a)).start
+  pub end : r.reference.end ≡ (bounding_box (extents_of a)).end
+  pub version : r.reference.version ≡ count_by (λ l. l.flight == a.flight) w.service.landings
   pub landing : Landing
   pub landed : Has w.service.landings landing
   pub ovn : r.reference.ovn ≡ Some landing.ovn
@@ -60,6 +71,36 @@ pub record IsRecordOf (w : World) (r : Recorded) (a : Attempted) : Type 0 where
 pub record EachIsIntended (w : World) : Type 0 where
   pub some : (r : Recorded) → Has w.service.references r → (a : Attempted) × IsIntentOf w r a × IsRecordOf w r a
   pub one : (r : Recorded) (a b : Attempted) → Has w.service.references r → IsIntentOf w r a → IsIntentOf w r b → a ≡ b
+
+-- the number of a flight's landings up to the one with an OVN
+abbrev pub one_of : ℕ → Landing → ℕ
+one_of flight l = if l.flight == flight then 1 else 0
+
+abbrev pub rank_of : ℕ → List ℕ → List Landing → ℕ
+rank_of flight ovn [] = 0
+rank_of flight ovn (l ∷ ls) = if same_text l.ovn ovn then one_of flight l else one_of flight l + rank_of flight ovn ls
+
+-- a pair is made: it is an attempt of some supplier as it landed, and its version counts the flight's landings up to this one
+pub record IsMade (w : World) (p : OperationalIntent) : Type 0 where
+  pub supplier : ℕ
+  pub attempt : Attempted
+  pub landing : Landing
+  pub version : ℕ
+  pub found : attempt_of attempt.tag (book_of supplier w) ≡ Some attempt
+  pub landed : Has w.service.landings landing
+  pub manager : landing.manager ≡ attempt.manager
+  pub flight : landing.flight ≡ attempt.flight
+  pub tag : landing.tag ≡ attempt.tag
+  pub rank : rank_of landing.flight landing.ovn w.service.landings ≡ version
+  pub is : p ≡ recorded_as attempt landing.ovn version
+
+-- each pair that a book holds, that was heard, that was served, and that was noted, is made
+pub record EachPairIsMade (w : World) : Type 0 where
+  pub held : (s flight : ℕ) (p : OperationalIntent) → held flight (book_of s w) ≡ Some p → IsMade w p
+  pub heard : (s : ℕ) (p : OperationalIntent) → Has (heard_of s w) (Heard p) → IsMade w p
+  pub served : (s answered : ℕ) (call : PeerCall) (p : OperationalIntent) → Has w.posts (Answered s answered call (Peers.Served p)) → IsMade w p
+  pub noted : (s : ℕ) (to : Option ℕ) (job place : ℕ) (base : List ℕ) (note : Note) (p : OperationalIntent) → Has w.posts (Asked s to (Calls.Notify job place base note)) → note.pair ≡ Some p
+      → IsMade w p
 
 -- two intents of different flights, both Accepted or Activated, of one priority at which conflict is forbidden, share a point of airspace
 -- and time
@@ -197,3 +238,8 @@ abbrev pub RefusalsAreSettled : World → Type 0
 RefusalsAreSettled w =
     (s answered : ℕ) (call : DssCall) (refusal : DssRefusal) → Has w.posts (Replied s answered call (Replies.Refused refusal)) →
     is_unsettling call.ask refusal ≡ true → is_open call.job (book_of s w) ≡ true → HasItsLanding w s call.job
+
+-- while a job is open, its landing stays recorded
+abbrev pub OpenLandingsStay : World → Type 0
+OpenLandingsStay w =
+    (s job : ℕ) (l : Landing) → is_open job (book_of s w) ≡ true → IsLandingOf w s job l → (r : Recorded) × Has w.service.references r × (r.reference.ovn ≡ Some l.ovn)

@@ -1,5 +1,4 @@
-use Rattle.std.proofs.Common.{◌≡◌, ◌<◌, ◌^◌, ℕ, List, length, All, sym, subst, arith}
-use Rattle.uss_event.specs.Rules.{IsTable}
+use Rattle.std.proofs.Common.{arith}
 use Rattle.uss_coding.specs.Laws.{few_in_table, small_in_table}
 use Rattle.uss_coding.proofs.owner.put_owner.Goals as goal
 

@@ -1,4 +1,3 @@
-use Rattle.std.proofs.Common.{◌≡◌, ◌++◌, ◌∷◌, []}
 use Rattle.std.proofs.lemmas.Result.{err_from_is_err_and}
 use Rattle.uss_coding_base.specs.Reading.{many_at}
 use Rattle.uss_coding_base.proofs.Loop.{begins, goes_on, ends, is_done}

@@ -1,4 +1,4 @@
-use Rattle.uss_event.proofs.Ascending.{goes_on, stops}
+use Rattle.uss_event.proofs.Ascending.{goes_on}
 use Rattle.uss_event.proofs.rules.ascend.Goals as goal
 
 pub loop-i-preserved : goal.loop-i-preserved
