@@ -8,7 +8,9 @@ mod writing;
 
 pub use references::{AnsweredReader, answered_reference, intent_reference, references_of};
 pub use texts::{
-    OvnReader, base_of, flight_of, name_of, optional_ovn, ovn_of, state_of,
-    ticket_of,
+    OvnReader, base_of, flight_of, name_of, optional_ovn, ovn_of, state_of, ticket_of,
 };
-pub use writing::{SubscriberWriter, flight_text, state_word, ticket_text, ticket_value};
+pub use writing::{
+    ReferenceWriter, SubscriberWriter, flight_text, reference_value, state_word, ticket_text,
+    ticket_value,
+};

@@ -1,4 +1,4 @@
-ghost use Rattle.std.specs.Prelude.{◌≡◌, IfOk, string_bytes, Some};
+ghost use Rattle.std.specs.Prelude.{◌≡◌, IfOk, string_bytes, Some, None};
 ghost use Rattle.serde_json.specs.View.{view};
 ghost use Rattle.uss_intent.specs.Identifiers.{identifier_text};
 ghost use Rattle.uss_intent.specs.States.{state_text};
@@ -6,7 +6,7 @@ ghost use Rattle.uss_wire_intent.specs.Writing as spec;
 
 use serde_json::{Value, json};
 use std::alloc::{AllocError, Global};
-use uss_intent::{FlightId, Reference, State, Subscriber, Ticket, TicketId};
+use uss_intent::{FlightId, Ovn, Reference, State, Subscriber, Ticket, TicketId};
 use uss_wire_base::WriteItem;
 use uss_wire_volume::time_value;
 
@@ -33,6 +33,75 @@ pub fn state_word(state: State) -> &'static str
         State::Activated => "Activated",
         State::Nonconforming => "Nonconforming",
         State::Contingent => "Contingent",
+    }
+}
+
+#[tactic(auto, unfolding(crate::specs::Writing::reference_json))]
+fn shown(alloc: Global, reference: &Reference, ovn: &Ovn) -> Result<Value, AllocError>
+    requires { reference.now.ovn ≡ Some ovn.now }
+    ensures { IfOk result (λ v. view v ≡ spec.reference_json reference.now) }
+{
+    let id = flight_text(alloc, reference.flight)?;
+    let ticket = ticket_text(alloc, reference.ticket)?;
+    let end = time_value(alloc, reference.end)?;
+    let start = time_value(alloc, reference.start)?;
+    json!(in alloc; {
+        "id": id,
+        "manager": reference.manager.as_str(),
+        "ovn": ovn.as_str(),
+        "state": state_word(reference.state),
+        "subscription_id": ticket,
+        "time_end": end,
+        "time_start": start,
+        "uss_availability": "Unknown",
+        "uss_base_url": reference.base.as_str(),
+        "version": reference.version
+    })
+}
+
+#[tactic(auto, unfolding(crate::specs::Writing::reference_json))]
+fn hidden(alloc: Global, reference: &Reference) -> Result<Value, AllocError>
+    requires { reference.now.ovn ≡ None }
+    ensures { IfOk result (λ v. view v ≡ spec.reference_json reference.now) }
+{
+    let id = flight_text(alloc, reference.flight)?;
+    let ticket = ticket_text(alloc, reference.ticket)?;
+    let end = time_value(alloc, reference.end)?;
+    let start = time_value(alloc, reference.start)?;
+    json!(in alloc; {
+        "id": id,
+        "manager": reference.manager.as_str(),
+        "state": state_word(reference.state),
+        "subscription_id": ticket,
+        "time_end": end,
+        "time_start": start,
+        "uss_availability": "Unknown",
+        "uss_base_url": reference.base.as_str(),
+        "version": reference.version
+    })
+}
+
+/// The value of a reference, with its OVN where it shows one.
+pub fn reference_value(alloc: Global, reference: &Reference) -> Result<Value, AllocError>
+    ensures { IfOk result (λ v. view v ≡ spec.reference_json reference.now) }
+{
+    match &reference.ovn {
+        Some(ovn) => shown(alloc, reference, ovn),
+        None => hidden(alloc, reference),
+    }
+}
+
+/// How references are written.
+#[derive(Clone, Copy)]
+pub struct ReferenceWriter;
+
+impl WriteItem<Reference> for ReferenceWriter {
+    ghost use Rattle.uss_wire_intent.specs.Writing.{reference_json};
+
+    ghost json = { λ _. reference_json };
+
+    fn write_item(&self, alloc: Global, item: &Reference) -> Result<Value, AllocError> {
+        reference_value(alloc, item)
     }
 }
 
