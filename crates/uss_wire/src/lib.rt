@@ -8,7 +8,12 @@
 mod calls;
 mod operator;
 mod replies;
+mod writing;
 
 pub use calls::{read_put_reference, read_put_subscription, read_query};
 pub use operator::{read_cancels, read_sweeps};
 pub use replies::{read_get_answer, read_query_answer, read_subscription_answer};
+pub use writing::{
+    messages_are_read_again, write_cancels, write_put_reference, write_put_subscription,
+    write_query, write_subscription_answer, write_sweeps,
+};
