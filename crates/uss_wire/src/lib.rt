@@ -17,3 +17,6 @@ pub use writing::{
     messages_are_read_again, write_cancels, write_put_reference, write_put_subscription,
     write_query, write_subscription_answer, write_sweeps,
 };
+
+#[cfg(test)]
+mod tests;
