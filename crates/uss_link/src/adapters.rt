@@ -1,8 +1,11 @@
-ghost use Rattle.std.specs.Prelude.{◌≡◌};
+ghost use Rattle.std.specs.Prelude.{◌≡◌, ◌≤◌, ◌<◌, length, None, Ok, IfOk};
+ghost use Rattle.uss_cause.specs.Cause.{Counts};
 
+use crate::dial::{Dial, DialFault};
 use crate::sink::{Sink, WriteFault};
 use crate::source::{ReadFault, Source};
-use std::io::{Read, Write};
+use std::io::{self, Read, Write};
+use std::net::{Net, TcpStream};
 use uss_cause::raised;
 
 /// A source over a real reader, as standard input. It tells nothing of the bytes: no contract can say what a
@@ -72,5 +75,103 @@ impl<W: Write> Sink for WriterSink<W> {
                 Err(WriteFault)
             }
         }
+    }
+}
+
+/// A dial over TCP. It tells nothing of the bytes, nor of what was reached: no contract can say what a real
+/// stream holds.
+#[derive(Drop)]
+pub struct TcpDial<'a, N: Net> {
+    net: &'a N,
+    stream: Option<N::Stream>,
+    faults: u64,
+}
+
+impl<'a, N: Net> TcpDial<'a, N> {
+    /// A dial with no stream open and no fault counted yet.
+    pub fn new(net: &'a N) -> TcpDial<'a, N>
+        ensures faults { result.faults ≡ 0 }
+        ensures stream { result.stream ≡ None }
+    {
+        TcpDial {
+            net,
+            stream: None,
+            faults: 0,
+        }
+    }
+}
+
+/// The host without the square brackets round an IPv6 address.
+fn bare(host: &str) -> &str {
+    match host.strip_prefix('[') {
+        Some(rest) => rest.strip_suffix(']').unwrap_or(rest),
+        None => host,
+    }
+}
+
+/// The answer, with a refusal counted as a fault.
+fn counted<T>(faults: &mut u64, answer: io::Result<T>) -> Result<T, DialFault>
+    ensures counts { Counts faults.old faults.new result }
+    ensures kept { IfOk result (λ value. answer ≡ Ok value) }
+{
+    match answer {
+        Ok(value) => Ok(value),
+        Err(_) => {
+            *faults = raised(*faults);
+            Err(DialFault)
+        }
+    }
+}
+
+/// Writes bytes from the front to an open stream.
+fn send_over<W: Write>(stream: &mut Option<W>, bytes: &[u8]) -> io::Result<usize>
+    ensures within { IfOk result (λ n. n ≤ length bytes.now) }
+    ensures some { IfOk result (λ n. 0 < length bytes.now → 0 < n) }
+{
+    match stream {
+        Some(open) => match open.write(bytes)? {
+            0 if !bytes.is_empty() => Err(io::ErrorKind::WriteZero.into()),
+            count => Ok(count),
+        },
+        None => Err(io::ErrorKind::NotConnected.into()),
+    }
+}
+
+/// Reads bytes into the front of the buffer from an open stream.
+fn receive_over<R: Read>(stream: &mut Option<R>, buffer: &mut [u8]) -> io::Result<usize>
+    ensures { IfOk result (λ n. n ≤ length buffer.old) }
+{
+    match stream {
+        Some(open) => open.read(buffer),
+        None => Err(io::ErrorKind::NotConnected.into()),
+    }
+}
+
+impl<'a, N: Net> Dial for TcpDial<'a, N> {
+    ghost use Rattle.std.specs.Prelude.{None};
+
+    ghost faults = { λ s. s.faults };
+
+    ghost talks = { λ _. None };
+
+    fn reach(&mut self, host: &str, port: u16) -> Result<(), DialFault> {
+        self.stream = None;
+        let answer = TcpStream::connect(self.net, (bare(host), port));
+        self.stream = Some(counted(&mut self.faults, answer)?);
+        Ok(())
+    }
+
+    fn send(&mut self, bytes: &[u8]) -> Result<usize, DialFault> {
+        let answer = send_over(&mut self.stream, bytes);
+        counted(&mut self.faults, answer)
+    }
+
+    fn receive(&mut self, buffer: &mut [u8]) -> Result<usize, DialFault> {
+        let answer = receive_over(&mut self.stream, buffer);
+        counted(&mut self.faults, answer)
+    }
+
+    fn close(&mut self) {
+        self.stream = None;
     }
 }

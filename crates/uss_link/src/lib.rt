@@ -4,13 +4,17 @@
 #![tactic(auto)]
 
 mod adapters;
+mod dial;
 mod memory;
+mod memory_dial;
 mod sink;
 mod source;
 #[cfg(test)]
 mod tests;
 
-pub use adapters::{ReaderSource, WriterSink};
+pub use adapters::{ReaderSource, TcpDial, WriterSink};
+pub use dial::{Dial, DialFault, send_all};
 pub use memory::{MemorySink, MemorySource};
+pub use memory_dial::{Conversation, MemoryDial, Reply};
 pub use sink::{Sink, WriteFault, write_all};
 pub use source::{ReadFault, ReadWholeRefusal, Source, read_whole};

@@ -1,0 +1,5 @@
+use Rattle.uss_law_world.proofs.Headline.{stay_after}
+use Rattle.uss_law_world.proofs.an_open_jobs_landing_stays_recorded.Goals as goal
+
+pub returns : goal.returns
+returns c = λ table owners moves names free. stay_after table owners names moves free
