@@ -263,3 +263,88 @@ fn each_refusal_has_its_number(rt: HostRuntime) -> Result<(), Fail> {
     }
     Ok(())
 }
+
+/// A call that records a flight of alpha's with these volumes and this key.
+fn put(alloc: Global, flight: u64, ovns: usize, volumes: usize) -> Result<String, Fail> {
+    let mut call = format!(in alloc;
+        "alpha put 00000001-0000-4000-8000-{flight} - Accepted http://a.test/a/1 00000001-0001-4000-8000-000000000001 key {ovns}"
+    )?;
+    for _ in 0..ovns {
+        call.push_str(" ovn-0000000000000009")?;
+    }
+    call.push_str(format!(in alloc; " vols {volumes}")?.as_str())?;
+    let x = flight % 100_000 * 20;
+    for _ in 0..volumes {
+        call.push_str(format!(in alloc;
+            " rect {x} 0 {} 10 0 100 1700003600000000000 1700005400000000000",
+            x + 10
+        )?
+        .as_str())?;
+    }
+    call.push_str("\n")?;
+    Ok(call)
+}
+
+const WIDE_TICKET: &str =
+    "alpha tput 00000001-0001-4000-8000-000000000001 http://a.test rect 0 0 2000000 100 0 1000 1700003600000000000 1700005400000000000\n";
+
+#[test]
+fn a_put_has_at_most_64_volumes_and_1024_ovns(rt: HostRuntime) -> Result<(), Fail> {
+    let alloc = rt.alloc();
+    let rows: [(usize, usize, &str); 4] = [
+        (0, 64, "subscribers 0\n"),
+        (0, 65, "refused 201\n"),
+        (1024, 1, "subscribers 0\n"),
+        (1025, 1, "refused 201\n"),
+    ];
+    for (ovns, volumes, end) in rows {
+        let call = put(alloc, 100_000_000_000, ovns, volumes)?;
+        let script = format!(in alloc; "{WIDE_TICKET}{call}")?;
+        let found = run_of(
+            alloc,
+            "discover",
+            Vec::from_slice(alloc, script.as_bytes())?,
+        )?;
+        assert_eq!(rt; found.0, 0);
+        assert!(rt;
+            found.1.as_slice().ends_with(end.as_bytes()),
+            "{ovns} {volumes}"
+        );
+    }
+    Ok(())
+}
+
+#[test]
+fn a_full_service_refuses_what_is_new(rt: HostRuntime) -> Result<(), Fail> {
+    let alloc = rt.alloc();
+    let mut flights = String::from_str(alloc, WIDE_TICKET)?;
+    for i in 0..4097 {
+        flights.push_str(put(alloc, 100_000_000_000 + i, 0, 1)?.as_str())?;
+    }
+    let found = run_of(
+        alloc,
+        "discover",
+        Vec::from_slice(alloc, flights.as_bytes())?,
+    )?;
+    assert!(rt;
+        found
+            .1
+            .as_slice()
+            .ends_with(b"subscribers 0\nrefused 211\n")
+    );
+
+    let mut tickets = String::new(alloc);
+    for i in 0..8193 {
+        let number = 100_000_000_000u64 + i;
+        tickets.push_str(format!(in alloc;
+            "alpha tput 00000001-0001-4000-8000-{number} http://a.test rect 0 0 1 1 0 1 1700003600000000000 1700005400000000000\n"
+        )?.as_str())?;
+    }
+    let found = run_of(
+        alloc,
+        "discover",
+        Vec::from_slice(alloc, tickets.as_bytes())?,
+    )?;
+    assert!(rt; found.1.as_slice().ends_with(b" alpha 1 0\nrefused 211\n"));
+    Ok(())
+}

@@ -1,1 +1,4 @@
 pub mod Extents
+pub mod Tables
+pub mod Accepted
+mod Ascending

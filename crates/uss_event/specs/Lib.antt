@@ -3,3 +3,4 @@ pub mod Plans
 pub mod Pairs
 pub mod Transitions
 pub mod Verdicts
+pub mod Refusals

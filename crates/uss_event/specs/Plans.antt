@@ -1,6 +1,6 @@
 -- What an operational intent may be: its volumes, its off-nominal volumes, its state and its priority. After the operational
 -- intent details of ASTM F3548-21; the limits are this project's own.
-use Rattle.std.specs.Prelude.{ℕ, ◌+◌, Bool, true, false, ◌&&◌, ◌||◌, nat_lt, nat_le, ℤ, int_le, List, ◌++◌, length, sum_by, IsTrue}
+use Rattle.std.specs.Prelude.{ℕ, ◌+◌, Bool, true, false, ◌&&◌, ◌||◌, nat_lt, nat_le, ℤ, int_le, List, ◌++◌, length, sum_by}
 use Rattle.std.specs.List.{list_all, list_any}
 use Rattle.std.specs.Ordering.{int_eq}
 use Rattle.uss_vol4.specs.Volume.{Volume4D}

@@ -1,8 +1,7 @@
 -- When a candidate may not be recorded beside an operational intent, and when two intents stand against each other. That conflict is
 -- looked at in Accepted and Activated, and that the greater priority goes first, is after ASTM F3548-21 (strategic conflict
 -- detection); the table and the exception are this project's own.
-use Rattle.std.specs.Prelude.{ℕ, Bool, true, false, not, ◌&&◌, ◌||◌, ◌==◌, nat_lt, List, Option, Some, None, if◌then◌else◌}
-use Rattle.uss_vol4.specs.Volume.{Volume4D}
+use Rattle.std.specs.Prelude.{ℕ, Bool, true, false, not, ◌&&◌, ◌==◌, nat_lt, List, Option, Some, None, if◌then◌else◌}
 use Rattle.uss_vol4.specs.Sharing.{any_shares}
 use Rattle.uss_intent.specs.declared.records.State.{State}
 use Rattle.uss_intent.specs.declared.records.State.TheVariants.{Accepted, Activated, Nonconforming, Contingent}

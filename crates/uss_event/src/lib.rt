@@ -11,6 +11,7 @@ mod details;
 mod entries;
 mod events;
 mod pairs;
+mod refusals;
 mod rules;
 mod steps;
 
@@ -20,5 +21,6 @@ pub use details::{Candidate, Details, Proposal, Proposals};
 pub use entries::{Attempt, Ending, Entries, Entry, FlightIds, Owner, Tags};
 pub use events::{Answer, Event, Said};
 pub use pairs::{Pair, Pairs};
+pub use refusals::DetailsRefusal;
 pub use rules::{RuleTable, Verdict};
 pub use steps::{Message, Party, Step, Stopped, WorldSteps};

@@ -4,8 +4,10 @@ ghost use Rattle.std.specs.List.{list_all, list_any};
 ghost use Rattle.std.specs.Ordering.{int_eq};
 ghost use Rattle.uss_event.specs.Plans.{is_plan, vertex_count, extents_of, may_be_off_nominal, is_least_start, is_greatest_end};
 ghost use Rattle.uss_event.specs.Pairs.{is_pair, pair_from};
+ghost use Rattle.uss_event.specs.Refusals.{refusal_of};
 
-use crate::Details;
+use crate::{Details, DetailsRefusal};
+use std::alloc::AllocError;
 use std::marker::Model;
 use uss_intent::{Reference, Sequence, State};
 use uss_vol4::Volume4;
@@ -27,6 +29,17 @@ impl Model for Pair {
     ghost view = { λ p. record { reference = p.reference; details = p.details } };
 
     ghost invariant = { λ p. IsTrue (is_pair p.reference p.details) };
+}
+
+impl Clone for Pair {
+    ghost is_clone = { λ pair copy. copy ≡ pair };
+
+    fn clone(&self) -> Result<Pair, AllocError> {
+        Ok(Pair {
+            reference: self.reference.clone()?,
+            details: self.details.clone()?,
+        })
+    }
 }
 
 /// Pairs, ascending by flight where they are held against a candidate.
@@ -85,6 +98,34 @@ fn is_plan(state: State, details: &Details) -> bool
         && (may_be_off_nominal(state) || off_nominal.is_empty())
         && are_some(volumes, off_nominal)
         && details.priority <= 1000
+}
+
+/// The first reason why these are no details.
+#[tactic(auto, unfolding(crate::specs::Refusals::refusal_of))]
+pub(crate) fn refusal_of(
+    state: State,
+    volumes: &[Volume4],
+    off_nominal: &[Volume4],
+    priority: u16,
+) -> Option<DetailsRefusal>
+    ensures { result ≡ refusal_of state volumes.now off_nominal.now priority }
+{
+    if !are_few(volumes, off_nominal) {
+        return Some(DetailsRefusal::TooManyVolumes);
+    }
+    if vertex_count(volumes) + vertex_count(off_nominal) > 10_000 {
+        return Some(DetailsRefusal::TooManyVertices);
+    }
+    if !may_be_off_nominal(state) && !off_nominal.is_empty() {
+        return Some(DetailsRefusal::OffNominalNotAllowed);
+    }
+    if !are_some(volumes, off_nominal) {
+        return Some(DetailsRefusal::NoVolume);
+    }
+    if priority > 1000 {
+        return Some(DetailsRefusal::PriorityRange);
+    }
+    None
 }
 
 fn none_starts_before(moment: i64, volumes: &[Volume4]) -> bool

@@ -1,6 +1,9 @@
-ghost use Rattle.std.specs.Prelude.{◌≡◌};
-ghost use Rattle.uss_event.specs.Rules.{is_listed, IsTable};
+ghost use Rattle.std.specs.Prelude.{◌≡◌, ◌↔◌, ◌+◌, ◌<◌, ℕ, IsTrue, IfOk, IfErr, IsErrOf, length, drop, slice_index};
+ghost use Rattle.std.specs.List.{list_any};
+ghost use Rattle.uss_event.specs.Rules.{is_listed, is_below, ascend, is_table, table_from, is_too_great, are_in_range, IsTable};
 
+use crate::DetailsRefusal;
+use std::alloc::{AllocError, Global};
 use std::marker::Model;
 
 /// What comes of holding a candidate against a pair.
@@ -31,7 +34,104 @@ impl Model for RuleTable {
     ghost invariant = { λ a. IsTable a.priorities.items };
 }
 
+/// Whether the number at this place is less than the next, if there is one.
+fn rises_at(numbers: &[u16], i: usize) -> bool
+    requires { i < length numbers.now }
+    ensures { result ≡ is_below (slice_index numbers.now i) (drop (i + 1) numbers.now) }
+{
+    let number = numbers[i];
+    match &numbers[i + 1..] {
+        [] => true,
+        [next, ..] => number < *next,
+    }
+}
+
+/// Whether each number is less than the next.
+fn ascend(numbers: &[u16]) -> bool
+    ensures { result ≡ ascend numbers.now }
+{
+    for i in 0..numbers.len() {
+        if !rises_at(numbers, i) {
+            return false;
+        }
+    }
+    true
+}
+
+fn are_in_range(priorities: &[u16]) -> bool
+    ensures { result ≡ are_in_range priorities.now }
+{
+    priorities.iter().all(|p| *p <= 1000)
+}
+
+fn is_table(priorities: &[u16]) -> bool
+    ensures { result ≡ is_table priorities.now }
+{
+    ascend(priorities) && are_in_range(priorities)
+}
+
+fn is_any_too_great(list: &[u16]) -> bool
+    ensures { result ≡ list_any is_too_great list.now }
+{
+    list.iter().any(|p| *p > 1000)
+}
+
+/// The priorities, ascending and each once.
+fn in_order(mut priorities: Vec<u16>) -> Vec<u16>
+    requires { IsTrue (are_in_range priorities.items) }
+    ensures table { IsTable result.items }
+    ensures set { (p : ℕ) → is_listed p result.items ≡ is_listed p priorities.items }
+{
+    priorities.sort_unstable();
+    priorities.dedup();
+    priorities
+}
+
+impl Clone for RuleTable {
+    ghost is_clone = { λ table copy. copy ≡ table };
+
+    fn clone(&self) -> Result<RuleTable, AllocError> {
+        Ok(RuleTable {
+            priorities: self.priorities.clone()?,
+        })
+    }
+}
+
 impl RuleTable {
+    ghost use Rattle.uss_event.specs.declared.refusals.DetailsRefusal.TheVariants as DetailsRefusal;
+    ghost use Rattle.uss_event.specs.Refusals.{IsPriorityRefusal};
+
+    /// The table that lists these priorities, in whatever order and however often each stands among them. Refused is a priority above
+    /// 1000.
+    #[tactic(auto, using(crate::proofs::Tables::in_range_without_too_great))]
+    pub fn of(alloc: Global, list: &[u16]) -> Result<RuleTable, DetailsRefusal>
+        ensures table { IfOk result IsTable }
+        ensures set { IfOk result (λ t. (p : ℕ) → is_listed p t ≡ is_listed p list.now) }
+        ensures range { IsErrOf result DetailsRefusal.PriorityRange ↔ IsTrue (list_any is_too_great list.now) }
+        ensures refused { IfErr result IsPriorityRefusal }
+    {
+        if is_any_too_great(list) {
+            return Err(DetailsRefusal::PriorityRange);
+        }
+        match Vec::from_slice(alloc, list) {
+            Ok(priorities) => Ok(RuleTable {
+                priorities: in_order(priorities),
+            }),
+            Err(_) => Err(DetailsRefusal::Memory),
+        }
+    }
+
+    /// The table that lists these priorities in this order, where they ascend from 0 to 1000. Takes no memory.
+    pub fn from_ascending(priorities: Vec<u16>) -> Option<RuleTable>
+        ensures { result ≡ table_from priorities.items }
+    {
+        if is_table(priorities.as_slice()) {
+            Some(RuleTable { priorities })
+        } else {
+            None
+        }
+    }
+
     /// Whether conflict at this priority is forbidden. Takes no memory.
     pub fn forbids(&self, priority: u16) -> bool
         ensures { result ≡ is_listed priority self.now }

@@ -1,0 +1,20 @@
+//! The entries of a supplier's book as bytes, each within the limits of its values.
+//!
+//! `specs/Coding.antt` says which bytes the coding of an entry is, and `specs/Reading.antt` how they are read field by field. What
+//! is read is spelled so, each byte of it, and what is spelled so is read; each entry has one coding.
+#![tactic(auto)]
+
+mod asks;
+mod coding;
+mod endings;
+mod entries;
+mod law;
+mod lengths;
+mod owner;
+#[cfg(test)]
+mod tests;
+mod values;
+
+pub use coding::{read, write};
+pub use law::{codings_have_their_length, one_coding_each};
+pub use lengths::{length_of, opening_length};

@@ -1,0 +1,3 @@
+pub mod Loop
+mod Made
+pub mod Appends

@@ -1,0 +1,9 @@
+pub mod Spelling
+pub mod Reading
+pub mod Volumes
+pub mod Coded
+pub mod Laws
+pub mod ListLaws
+pub mod VolumeLaws
+pub mod Texts
+pub mod TextLaws

@@ -1,0 +1,246 @@
+-- What is kept where books and landings grow.
+use Rattle.std.proofs.Common.{ℕ, true, List, ◌++◌, ◌≡◌, ◌⊎◌, inl, inr, Option, Some, None, IfSome, refl, sym, subst, ◌∙◌}
+use Rattle.uss_intent.specs.declared.records.Recorded.{Recorded}
+use Rattle.uss_intent.specs.declared.records.Reference.{Reference}
+use Rattle.uss_intent.specs.declared.records.Landing.{Landing}
+use Rattle.uss_intent.specs.declared.calls.DssAsk.{DssAsk}
+use Rattle.uss_intent.specs.declared.calls.DssAsk.TheVariants as Asks
+use Rattle.uss_intent.specs.declared.calls.DssReply.{DssReply}
+use Rattle.uss_intent.specs.declared.calls.DssReply.TheVariants as Replies
+use Rattle.uss_event.specs.Pairs.{OperationalIntent}
+use Rattle.uss_event.specs.Verdicts.{is_strategic}
+use Rattle.uss_event.specs.declared.entries.Owner.{Owner}
+use Rattle.uss_event.specs.declared.entries.Entry.{Entry}
+use Rattle.uss_event.specs.declared.calls.DssCall.{DssCall}
+use Rattle.uss_event.specs.declared.calls.PeerCall.{PeerCall}
+use Rattle.uss_event.specs.declared.calls.PeerCall.TheVariants as Calls
+use Rattle.uss_event.specs.declared.calls.PeerReply.TheVariants as Peers
+use Rattle.uss_event.specs.declared.calls.Note.{Note}
+use Rattle.uss_event.specs.declared.events.Said.{Said}
+use Rattle.uss_event.specs.declared.events.Said.TheVariants as Says
+use Rattle.uss_law_dss.specs.Lists.{Has}
+use Rattle.uss_law_dss.specs.Service.{has_number}
+use Rattle.uss_law_dss.specs.Orderly.{IsOrderly}
+use Rattle.uss_law_book.specs.Lists.{Opening, Trial, Holding, Closing, openings, trials, holdings, endings}
+use Rattle.uss_law_book.specs.Readings.{trial_of, is_closed}
+use Rattle.uss_law_book.specs.Attempts.{Attempted, attempt_of}
+use Rattle.uss_law_book.proofs.Entries.{opening_stays, trial_stays, closed_by_either}
+use Rattle.uss_law_book.proofs.Attempts.{attempt_kept, trial_kept}
+use Rattle.uss_law_duty.specs.Heard.News.{Heard}
+use Rattle.uss_law_world.specs.World.{Supplier, Saying, World, supplier_in, book_of, heard_of, name_of}
+use Rattle.uss_law_world.specs.World.Post.{Called, Replied, Asked, Answered}
+use Rattle.uss_law_world.specs.Claims.{tag_in, rank_of, IsLandingOf}
+use Rattle.uss_law_world.proofs.Books.{holding_stays, ending_stays}
+use Rattle.uss_law_world.proofs.Facts.{IsSound, HasLanding, IsMade, LandingFrom, RecordedFrom, AreApart, NamesHeld, IsEndOf, IsToEnd, CallFrom, ShowsLanding, RetiredBy, ReplyShows, IsClearOvn, IsEntered, IsStanding, EndingShows, SaidIsKept, Facts}
+
+-- books and landings grow, and what is retired stays so; no attempt is made for a job that has ended
+pub record Grows (w v : World) : Type 0 where
+  pub names : (s : ℕ) → name_of s v ≡ name_of s w
+  pub books : (s : ℕ) → (more : List Entry) × (book_of s v ≡ book_of s w ++ more)
+  pub untried : (s : ℕ) (d : Closing) → Has (endings (book_of s w)) d → (t : Trial) → Has (trials (book_of s v)) t → t.job ≡ d.job → Has (trials (book_of s w)) t
+  pub landings : (l : Landing) → Has w.service.landings l → Has v.service.landings l
+  pub ranks : (flight : ℕ) (l : Landing) → Has w.service.landings l → rank_of flight l.ovn v.service.landings ≡ rank_of flight l.ovn w.service.landings
+  pub flights : (n : ℕ) → has_number n w.service.retired_flights ≡ true → has_number n v.service.retired_flights ≡ true
+  pub tickets : (n : ℕ) → has_number n w.service.retired_tickets ≡ true → has_number n v.service.retired_tickets ≡ true
+
+module _ {w v : World} (g : Grows w v) where
+  -- what every longer book has
+  in_book : (s : ℕ) (P : List Entry → Type 0) → ((more : List Entry) → P (book_of s w ++ more)) → P (book_of s v)
+  in_book s P f = let b = g.books s in subst P (sym b.1) (f b.0)
+
+  pub attempt : (s tag : ℕ) (a : Attempted) → attempt_of tag (book_of s w) ≡ Some a → attempt_of tag (book_of s v) ≡ Some a
+  attempt s tag a h = in_book s (λ b. attempt_of tag b ≡ Some a) (λ more. attempt_kept (book_of s w) more tag a h)
+
+  pub holding : (s : ℕ) (h : Holding) → Has (holdings (book_of s w)) h → Has (holdings (book_of s v)) h
+  holding s h k = in_book s (λ b. Has (holdings b) h) (λ more. holding_stays (book_of s w) more h k)
+
+  pub trial : (s : ℕ) (t : Trial) → Has (trials (book_of s w)) t → Has (trials (book_of s v)) t
+  trial s t k = in_book s (λ b. Has (trials b) t) (λ more. trial_stays (book_of s w) more t k)
+
+  pub opening : (s : ℕ) (o : Opening) → Has (openings (book_of s w)) o → Has (openings (book_of s v)) o
+  opening s o k = in_book s (λ b. Has (openings b) o) (λ more. opening_stays (book_of s w) more o k)
+
+  ending : (s : ℕ) (d : Closing) → Has (endings (book_of s w)) d → Has (endings (book_of s v)) d
+  ending s d k = in_book s (λ b. Has (endings b) d) (λ more. ending_stays (book_of s w) more d k)
+
+  closed : (s job : ℕ) → is_closed job (book_of s w) ≡ true → is_closed job (book_of s v) ≡ true
+  closed s job k = in_book s (λ b. is_closed job b ≡ true) (λ more. closed_by_either job (book_of s w) more ∙ rw k refl)
+
+  pub has_landing : (s tag : ℕ) (o : List ℕ) (n : ℕ) → HasLanding w s tag o n → HasLanding v s tag o n
+  has_landing s tag o n h =
+      record { landing = h.landing; landed = g.landings h.landing h.landed; ovn = h.ovn; manager = h.manager ∙ sym (g.names s); tag_is = h.tag_is; rank = g.ranks h.landing.flight h.landing h.landed ∙ h.rank }
+
+  pub made : (p : OperationalIntent) → IsMade w p → IsMade v p
+  made p h =
+      record {
+        s = h.s;
+        attempt = h.attempt;
+        ovn = h.ovn;
+        version = h.version;
+        found = attempt h.s h.attempt.tag h.attempt h.found;
+        is = h.is;
+        landing = has_landing h.s h.attempt.tag h.ovn h.version h.landing;
+      }
+
+  pub landing_from : (l : Landing) → LandingFrom w l → LandingFrom v l
+  landing_from l h =
+      record {
+        s = h.s;
+        attempt = h.attempt;
+        found = attempt h.s l.tag h.attempt h.found;
+        manager = h.manager;
+        flight = h.flight;
+        previous = h.previous;
+        ticket = h.ticket;
+      }
+
+  unfoldable pub recorded_from : (r : Recorded) → RecordedFrom w r → RecordedFrom v r
+  recorded_from r h =
+      record {
+        s = h.s;
+        attempt = h.attempt;
+        found = attempt h.s h.attempt.tag h.attempt h.found;
+        flight = h.flight;
+        manager = h.manager;
+        state = h.state;
+        extents = h.extents;
+        base = h.base;
+        ticket = h.ticket;
+      }
+
+  pub are_apart : (table : List ℕ) (r q : Recorded) → AreApart table w r q → AreApart table v r q
+  unfolding recorded_from
+  are_apart table r q h = record { first = recorded_from r h.first; second = recorded_from q h.second; apart = h.apart }
+
+  pub names_held : (s : ℕ) (o : List ℕ) → NamesHeld w s o → NamesHeld v s o
+  names_held s o h = record { holding = h.holding; entered = holding s h.holding h.entered; ovn_is = h.ovn_is }
+
+  pub end_of : (s flight : ℕ) → IsEndOf w s flight → IsEndOf v s flight
+  end_of s flight h = record { opening = h.opening; opened = opening s h.opening h.opened; end = h.end; flight_is = h.flight_is }
+
+  pub to_end : (flight : ℕ) → IsToEnd w flight → IsToEnd v flight
+  to_end flight h = record { s = h.s; ends = end_of h.s flight h.ends }
+
+  pub call_from : (s job : ℕ) (ask : DssAsk) → CallFrom w s job ask → CallFrom v s job ask
+  call_from s job (Asks.Put flight ovn extents key state base ticket) h =
+      record { attempt = h.attempt; found = attempt s h.attempt.tag h.attempt h.found; its_job = h.its_job; is = h.is }
+  call_from s job (Asks.Remove flight ovn) h = record { names = names_held s ovn h.names; ends = end_of s flight h.ends }
+  call_from s job (Asks.TicketRemove ticket version) h = record { opening = h.opening; opened = opening s h.opening h.opened; job_is = h.job_is; ticket_is = h.ticket_is }
+  call_from s job _ h = tt
+
+  landing_of : (s job : ℕ) (l : Landing) → IsLandingOf w s job l → IsLandingOf v s job l
+  landing_of s job l h =
+      record { there = g.landings l h.there; manager = h.manager ∙ sym (g.names s); trial = h.trial; tried = trial s h.trial h.tried; job_is = h.job_is; tag = h.tag }
+
+  shows : (s : ℕ) (r : Reference) → ShowsLanding w s r → ShowsLanding v s r
+  shows s r h = λ o e. has_landing s (tag_in r) o r.version (h o e)
+
+  pub retired : (ask : DssAsk) → RetiredBy w ask → RetiredBy v ask
+  retired (Asks.Remove flight ovn) h = g.flights flight h
+  retired (Asks.TicketRemove ticket version) h = g.tickets ticket h
+  retired _ h = tt
+
+  pub reply_shows : (s job : ℕ) (ask : DssAsk) (reply : DssReply) → ReplyShows w s job ask reply → ReplyShows v s job ask reply
+  reply_shows s job ask (Replies.Landed r subscribers) h = shows s r h
+  reply_shows s job ask (Replies.Got r) h = shows s r h
+  reply_shows s job ask (Replies.Removed r subscribers) h = retired ask h
+  reply_shows s job ask (Replies.TicketRemoved t) h = retired ask h
+  reply_shows s job ask (Replies.Refused refusal) h =
+      record {
+        retired = λ e. retired ask (h.retired e);
+        settled = λ e. elim (h.settled e) [ inl c ↦ inl (closed s job c) | inr l ↦ inr (l.0, landing_of s job l.0 l.1) ];
+      }
+  reply_shows s job ask _ h = tt
+
+  pub clear_ovn : (table : List ℕ) (a : Attempted) (o : List ℕ) → IsClearOvn table w a o → IsClearOvn table v a o
+  clear_ovn table a o h =
+      record {
+        pair = h.pair;
+        made = made h.pair h.made;
+        ovn_is = h.ovn_is;
+        previous = h.previous;
+        previous_made = each h.previous h.previous_made;
+        previous_is = h.previous_is;
+        clear = h.clear;
+      }
+    where
+      each : (x : Option OperationalIntent) → IfSome x (IsMade w) → IfSome x (IsMade v)
+      each None k = tt
+      each (Some p) k = made p k
+
+  pub entered_still : (l : Landing) → IsEntered w l → IsEntered v l
+  entered_still l h = record { s = h.s; names = names_held h.s l.ovn h.names }
+
+  pub ending_shows : (s : ℕ) (d : Closing) → Has (endings (book_of s w)) d → EndingShows w s d → EndingShows v s d
+  ending_shows s d k h =
+      record {
+        ends = λ e. (let r = h.ends e in record { opening = r.opening; opened = opening s r.opening r.opened; job_is = r.job_is; retired = g.flights _ r.retired });
+        lands_nothing = λ e. elim (h.lands_nothing e) [ inl u ↦ inl (λ t m q. u t (g.untried s d k t m q) q) | inr r ↦ inr (g.tickets _ r) ];
+      }
+
+  said_is_kept : (s flight number : ℕ) (said : Said) → SaidIsKept (book_of s w) s flight number said → SaidIsKept (book_of s v) s flight number said
+  said_is_kept s flight number (Says.Answer answer) h = λ f. (let k = h f in record {
+    opening = k.opening;
+    opened = opening s k.opening k.opened;
+    flight_is = k.flight_is;
+    number_is = k.number_is;
+    keeps = elim k.keeps [
+      | inl x ↦ inl (record {
+        holding = x.holding;
+        trial = x.trial;
+        entered = holding s x.holding x.entered;
+        job = x.job;
+        tried = in_book s (λ b. trial_of x.holding.tag b ≡ Some x.trial) (λ more. trial_kept (book_of s w) more x.holding.tag x.trial x.tried);
+        is = x.is;
+      })
+      | inr x ↦ inr (record { closing = x.closing; entered = ending s x.closing x.entered; job = x.job; is = x.is })
+    ];
+  })
+  said_is_kept s flight number _ h = tt
+
+  pub saying_kept : (x : Saying) → SaidIsKept (book_of x.supplier w) x.supplier x.flight x.number x.said → SaidIsKept (book_of x.supplier v) x.supplier x.flight x.number x.said
+  saying_kept x h = said_is_kept x.supplier x.flight x.number x.said h
+
+-- what is new in a world, each with what is claimed of it
+pub record News (table : List ℕ) (owners : List Owner) (w v : World) : Type 0 where
+  pub grows : Grows w v
+  pub service : IsOrderly v.service
+  pub suppliers : (s : ℕ) (x : Supplier) → supplier_in s v.suppliers ≡ Some x → IsSound owners x
+  pub calls : (s : ℕ) (call : DssCall) → Has v.posts (Called s call) → Has w.posts (Called s call) ⊎ CallFrom v s call.job call.ask
+  pub replies : (s k : ℕ) (call : DssCall) (reply : DssReply) → Has v.posts (Replied s k call reply) → Has w.posts (Replied s k call reply) ⊎ ReplyShows v s call.job call.ask reply
+  pub served : (s k : ℕ) (call : PeerCall) (p : OperationalIntent) → Has v.posts (Answered s k call (Peers.Served p)) → Has w.posts (Answered s k call (Peers.Served p)) ⊎ IsMade v p
+  pub notes : (s : ℕ) (to : Option ℕ) (job place : ℕ) (base : List ℕ) (note : Note) (p : OperationalIntent) → Has v.posts (Asked s to (Calls.Notify job place base note)) → note.pair ≡ Some p
+      → Has w.posts (Asked s to (Calls.Notify job place base note)) ⊎ IsMade v p
+  pub heard : (s : ℕ) (p : OperationalIntent) → Has (heard_of s v) (Heard p) → Has (heard_of s w) (Heard p) ⊎ IsMade v p
+  pub entered : (s : ℕ) (h : Holding) → Has (holdings (book_of s v)) h → Has (holdings (book_of s w)) h ⊎ HasLanding v s h.tag h.ovn h.version
+  pub keys : (s tag : ℕ) (a : Attempted) → attempt_of tag (book_of s v) ≡ Some a
+      → (attempt_of tag (book_of s w) ≡ Some a) ⊎ (is_strategic a.state ≡ true → (o : List ℕ) → Has a.key o → IsClearOvn table v a o)
+  pub landings : (l : Landing) → Has v.service.landings l → Has w.service.landings l ⊎ LandingFrom v l
+  pub recorded : (r : Recorded) → Has v.service.references r → Has w.service.references r ⊎ RecordedFrom v r
+  pub apart : (r q : Recorded) → Has v.service.references r → Has v.service.references q → (Has w.service.references r × Has w.service.references q) ⊎ AreApart table v r q
+  pub standing : (l : Landing) → Has v.service.landings l → IsStanding v l
+  pub retired : (n : ℕ) → has_number n v.service.retired_flights ≡ true → (has_number n w.service.retired_flights ≡ true) ⊎ IsToEnd v n
+  pub closed : (s : ℕ) (d : Closing) → Has (endings (book_of s v)) d → Has (endings (book_of s w)) d ⊎ EndingShows v s d
+  pub sayings : (x : Saying) → Has v.sayings x → Has w.sayings x ⊎ SaidIsKept (book_of x.supplier v) x.supplier x.flight x.number x.said
+
+pub kept : (table : List ℕ) (owners : List Owner) (w v : World) → News table owners w v → Facts table owners w → Facts table owners v
+kept table owners w v n j =
+    let g = n.grows in
+    record {
+      service = n.service;
+      suppliers = n.suppliers;
+      calls = λ s call h. elim (n.calls s call h) [ inl old ↦ call_from g s call.job call.ask (j.calls s call old) | inr new ↦ new ];
+      replies = λ s k call reply h. elim (n.replies s k call reply h) [ inl old ↦ reply_shows g s call.job call.ask reply (j.replies s k call reply old) | inr new ↦ new ];
+      served = λ s k call p h. elim (n.served s k call p h) [ inl old ↦ made g p (j.served s k call p old) | inr new ↦ new ];
+      notes = λ s to job place base note p h e. elim (n.notes s to job place base note p h e) [ inl old ↦ made g p (j.notes s to job place base note p old e) | inr new ↦ new ];
+      heard = λ s p h. elim (n.heard s p h) [ inl old ↦ made g p (j.heard s p old) | inr new ↦ new ];
+      entered = λ s h k. elim (n.entered s h k) [ inl old ↦ has_landing g s h.tag h.ovn h.version (j.entered s h old) | inr new ↦ new ];
+      keys = λ s tag a h k o i. elim (n.keys s tag a h) [ inl old ↦ clear_ovn g table a o (j.keys s tag a old k o i) | inr new ↦ new k o i ];
+      landings = λ l h. elim (n.landings l h) [ inl old ↦ landing_from g l (j.landings l old) | inr new ↦ new ];
+      recorded = λ r h. elim (n.recorded r h) [ inl old ↦ recorded_from g r (j.recorded r old) | inr new ↦ new ];
+      apart = λ r q h i. elim (n.apart r q h i) [ inl old ↦ are_apart g table r q (j.apart r q old.0 old.1) | inr new ↦ new ];
+      standing = n.standing;
+      retired = λ m h. elim (n.retired m h) [ inl old ↦ to_end g m (j.retired m old) | inr new ↦ new ];
+      closed = λ s d h. elim (n.closed s d h) [ inl old ↦ ending_shows g s d old (j.closed s d old) | inr new ↦ new ];
+      sayings = λ x h. elim (n.sayings x h) [ inl old ↦ saying_kept g x (j.sayings x old) | inr new ↦ new ];
+    }

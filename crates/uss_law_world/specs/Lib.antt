@@ -1,0 +1,6 @@
+pub mod World
+pub mod Moves
+pub mod Free
+pub mod Suppliers
+pub mod Claims
+pub mod Worked
