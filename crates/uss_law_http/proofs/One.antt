@@ -1,0 +1,136 @@
+-- The same bytes begin with one request.
+use Rattle.std.proofs.Common.{◌≡◌, ℕ, ◌+◌, ◌-◌, ◌<◌, ◌≤◌, List, [], ◌∷◌, ◌++◌, length, take, drop, All, Some, None, refl, sym, ap, ◌∙◌, subst, arith, inl, inr, append_assoc, append-nil}
+use Rattle.std.specs.Prelude.{map}
+use Rattle.std.proofs.Math.Seq.{take-append-add}
+use Rattle.std.proofs.lemmas.List.Elements.{All-head, All-tail}
+use Rattle.httparse.specs.Ascii.{crlf_bytes}
+use Rattle.httparse.specs.Grammar.{RequestHead, IsRequestHead, print_request, ReadsRequest, ChunkLine, IsChunkLine, print_chunk_line, chunk_size}
+use Rattle.httparse.specs.Spans.{name_and_value}
+use Rattle.httparse.proofs.GrammarLemmas.{request_unique}
+use Rattle.httparse.proofs.ChunkLemmas.{chunk_line_unique}
+use Rattle.uss_http_base.specs.declared.fields.Framing.{Framing}
+use Rattle.uss_http_base.specs.declared.fields.Framing.TheVariants.{Nothing, Length, Chunked}
+use Rattle.uss_http_base.specs.declared.heads.Head.{Head}
+use Rattle.uss_http_base.specs.declared.refusal.ReadRefusal.{ReadRefusal}
+use Rattle.uss_http_base.specs.declared.refusal.ReadRefusal.TheVariants as refusal
+use Rattle.uss_http_base.specs.declared.request.Request.{Request}
+use Rattle.uss_http_base.specs.Pieces.{piece_limit}
+use Rattle.uss_http_base.specs.Fields.{framing_of, client_of}
+use Rattle.uss_http_base.specs.Heads.{BeginsWith, IsOpenHead, BeginsNoHead}
+use Rattle.uss_http_base.specs.HeadAnswers.{IsHeadWith, HasHead, HasRefusedHead, IsRefusedHead}
+use Rattle.uss_http_base.specs.Chunks.{Chunk, print_chunk, IsChunk, chunks_text, body_of, IsLastLine, IsChunked}
+use Rattle.uss_http_base.specs.Bodies.{IsBody, IsRefusedBody}
+use Rattle.uss_http_base.specs.Requests.{IsRequest}
+
+one_tree : (bytes : List ℕ) (h k : RequestHead) (r q : List ℕ) → BeginsWith bytes h r → BeginsWith bytes k q → (h ≡ k) × (r ≡ q)
+one_tree bytes h k r q x y = request_unique bytes h k r q (x.valid, x.spelled) (y.valid, y.spelled)
+
+one_says : (method path : List ℕ) (fields : List (List ℕ × List ℕ)) (h k : Head) → IsHeadWith method path fields h → IsHeadWith method path fields k → h ≡ k
+one_says method path fields h k x y =
+    let m : h.method ≡ k.method = x.method_is ∙ sym y.method_is in
+    let p : h.path ≡ k.path = x.path_is ∙ sym y.path_is in
+    let some_framing : Some h.framing ≡ Some k.framing = sym x.framed ∙ y.framed in
+    let some_client : Some h.client ≡ Some k.client = sym x.named ∙ y.named in
+    let f : h.framing ≡ k.framing = cc in
+    let c : h.client ≡ k.client = cc in
+    λ i. record { method = m i; path = p i; client = c i; framing = f i }
+
+pub one_head : (bytes : List ℕ) (h k : Head) (r q : List ℕ) → HasHead bytes h r → HasHead bytes k q → (h ≡ k) × (r ≡ q)
+one_head bytes h k r q x y =
+    let t = one_tree bytes x.tree y.tree r q x.begins y.begins in
+    (one_says x.tree.method x.tree.target (map name_and_value x.tree.fields) h k x.says (subst (λ (tree : RequestHead). IsHeadWith tree.method tree.target (map name_and_value tree.fields) k) (sym t.0) y.says), t.1)
+
+-- the head is at the front of the first 16 KiB too
+reads_front : (bytes rest : List ℕ) (h : RequestHead) → BeginsWith bytes h rest → (more : List ℕ) × ReadsRequest (take piece_limit bytes) h more
+reads_front bytes rest h x =
+    let text = print_request h in
+    let k = piece_limit - length text in
+    let within = x.within in
+    let n : piece_limit ≡ length text + k = omega arith in
+    (take k rest, (x.valid, ap (take piece_limit) x.spelled ∙ ap (λ (j : ℕ). take j (text ++ rest)) n ∙ take-append-add text rest k))
+
+pub no_refused_head : (bytes : List ℕ) (h : Head) (r : List ℕ) (e : ReadRefusal) → HasHead bytes h r → IsRefusedHead bytes e → ⊥
+no_refused_head bytes h r refusal.HeadTooLarge x bad = let f = reads_front bytes r x.tree x.begins in bad.1.none x.tree f.0 f.1
+no_refused_head bytes h r refusal.BadHead x (inl bad) =
+    let f = reads_front bytes r x.tree x.begins in
+    bad.never [] x.tree f.0 (f.1.0, append-nil (take piece_limit bytes) ∙ f.1.1)
+no_refused_head bytes h r refusal.BadHead x (inr bad) =
+    let t = one_tree bytes x.tree bad.tree r bad.rest x.begins bad.begins in
+    let fields : framing_of (map name_and_value x.tree.fields) ≡ None = ap (λ (tree : RequestHead). framing_of (map name_and_value tree.fields)) t.0 ∙ bad.fields_are in
+    let framed = x.says.framed in
+    absurd (cc)
+no_refused_head bytes h r refusal.Truncated x bad = bad.1.none x.tree r (x.begins.valid, x.begins.spelled)
+no_refused_head bytes h r refusal.NoClient x bad =
+    let t = one_tree bytes x.tree bad.tree r bad.rest x.begins bad.begins in
+    let fields : client_of (map name_and_value x.tree.fields) ≡ None = ap (λ (tree : RequestHead). client_of (map name_and_value tree.fields)) t.0 ∙ bad.fields_are.1 in
+    let named = x.says.named in
+    absurd (cc)
+no_refused_head bytes h r refusal.BodyTooLarge x bad = bad
+no_refused_head bytes h r refusal.BadChunk x bad = bad
+no_refused_head bytes h r refusal.Fault x bad = bad
+no_refused_head bytes h r refusal.Memory x bad = bad
+
+same_front : (xs ys us vs : List ℕ) → length xs ≡ length ys → xs ++ us ≡ ys ++ vs → (xs ≡ ys) × (us ≡ vs)
+same_front [] [] us vs n e = (refl, e)
+same_front [] (y ∷ ys) us vs n e = absurd (omega arith)
+same_front (x ∷ xs) [] us vs n e = absurd (omega arith)
+same_front (x ∷ xs) (y ∷ ys) us vs n e =
+    let head : x ≡ y = cc in
+    let tail : xs ++ us ≡ ys ++ vs = cc in
+    let h = same_front xs ys us vs (omega arith) tail in
+    ((λ i. head i ∷ h.0 i), h.1)
+
+-- the line at the front, and what follows it
+lines : (l m : ChunkLine) (r q : List ℕ) → IsChunkLine l → IsChunkLine m → print_chunk_line l ++ r ≡ print_chunk_line m ++ q → (l ≡ m) × (r ≡ q)
+lines l m r q x y e = chunk_line_unique (print_chunk_line l ++ r) l m r q (x, refl) (y, e)
+
+group : (c : Chunk) (cs : List Chunk) (tail : List ℕ) → (print_chunk c ++ chunks_text cs) ++ tail ≡ print_chunk_line c.line ++ (c.bytes ++ (crlf_bytes ++ (chunks_text cs ++ tail)))
+group c cs tail = simp append_assoc
+
+zero_size : (l m : ChunkLine) → l ≡ m → chunk_size l ≡ 0 → 0 < chunk_size m → ⊥
+zero_size l m e n s = let z : chunk_size m ≡ 0 = ap chunk_size (sym e) ∙ n in absurd (omega arith)
+
+one_split : (cs ds : List Chunk) (l m : ChunkLine) (r q : List ℕ) → All IsChunk cs → All IsChunk ds → IsLastLine l → IsLastLine m → chunks_text cs ++ (print_chunk_line l ++ r) ≡ chunks_text ds ++ (print_chunk_line m ++ q) → body_of cs ≡ body_of ds
+one_split [] [] l m r q x y a b e = refl
+one_split [] (d ∷ ds) l m r q x y a b e =
+    let is = All-head IsChunk d ds y in
+    let h = lines l d.line r _ a.line_is.valid is.line.valid (e ∙ group d ds (print_chunk_line m ++ q)) in
+    absurd (zero_size l d.line h.0 a.none is.some)
+one_split (c ∷ cs) [] l m r q x y a b e =
+    let is = All-head IsChunk c cs x in
+    let h = lines m c.line q _ b.line_is.valid is.line.valid (sym e ∙ group c cs (print_chunk_line l ++ r)) in
+    absurd (zero_size m c.line h.0 b.none is.some)
+one_split (c ∷ cs) (d ∷ ds) l m r q x y a b e =
+    let is = All-head IsChunk c cs x in
+    let that = All-head IsChunk d ds y in
+    let h = lines c.line d.line _ _ is.line.valid that.line.valid (sym (group c cs (print_chunk_line l ++ r)) ∙ e ∙ group d ds (print_chunk_line m ++ q)) in
+    let sizes : length c.bytes ≡ length d.bytes = is.size ∙ ap chunk_size h.0 ∙ sym that.size in
+    let k = same_front c.bytes d.bytes _ _ sizes h.1 in
+    let j = same_front crlf_bytes crlf_bytes (chunks_text cs ++ (print_chunk_line l ++ r)) (chunks_text ds ++ (print_chunk_line m ++ q)) refl k.1 in
+    let i = one_split cs ds l m r q (All-tail IsChunk c cs x) (All-tail IsChunk d ds y) a b j.1 in
+    ap (λ (t : List ℕ). t ++ body_of cs) k.0 ∙ ap (λ (t : List ℕ). d.bytes ++ t) i
+
+pub one_body : (framing : Framing) (bytes b c : List ℕ) → IsBody framing bytes b → IsBody framing bytes c → b ≡ c
+one_body Nothing bytes b c x y = x ∙ sym y
+one_body (Length n) bytes b c x y = x.2 ∙ sym y.2
+one_body Chunked bytes b c x y = x.carried ∙ one_split x.chunks y.chunks x.last y.last _ _ x.are_chunks y.are_chunks x.is_last y.is_last (sym x.spelled ∙ y.spelled) ∙ sym y.carried
+
+pub one_whole : (bytes : List ℕ) (r q : Request) → IsRequest bytes r → IsRequest bytes q → r ≡ q
+one_whole bytes r q x y =
+    let h = one_head bytes x.head y.head x.rest y.rest x.has_head y.has_head in
+    let moved : IsBody x.head.framing y.rest q.body = subst (λ (head : Head). IsBody head.framing y.rest q.body) (sym h.0) y.has_body in
+    let body : r.body ≡ q.body = one_body x.head.framing x.rest r.body q.body x.has_body (subst (λ (rest : List ℕ). IsBody x.head.framing rest q.body) (sym h.1) moved) in
+    let m : r.method ≡ q.method = x.method_is ∙ ap (λ (head : Head). head.method) h.0 ∙ sym y.method_is in
+    let p : r.path ≡ q.path = x.path_is ∙ ap (λ (head : Head). head.path) h.0 ∙ sym y.path_is in
+    let c : r.client ≡ q.client = x.client_is ∙ ap (λ (head : Head). head.client) h.0 ∙ sym y.client_is in
+    λ i. record { method = m i; path = p i; client = c i; body = body i }
+
+pub one_length : (n : ℕ) (bytes b : List ℕ) (e : ReadRefusal) → IsBody (Length n) bytes b → IsRefusedBody (Length n) bytes e → ⊥
+one_length n bytes b refusal.BodyTooLarge x bad = let within = x.0 in absurd (omega arith)
+one_length n bytes b refusal.Truncated x bad = let enough = x.1 in let few = bad.1 in absurd (omega arith)
+one_length n bytes b refusal.BadChunk x bad = bad
+one_length n bytes b refusal.HeadTooLarge x bad = bad
+one_length n bytes b refusal.BadHead x bad = bad
+one_length n bytes b refusal.NoClient x bad = bad
+one_length n bytes b refusal.Fault x bad = bad
+one_length n bytes b refusal.Memory x bad = bad

@@ -1,0 +1,17 @@
+use Rattle.uss_law_http.proofs.One.{one_head, one_body, one_whole, no_refused_head, one_length}
+use Rattle.uss_law_http.proofs.laws.one_request.Goals as goal
+
+pub returns-clause-heads : goal.returns-clause-heads
+returns-clause-heads c = one_head
+
+pub returns-clause-bodies : goal.returns-clause-bodies
+returns-clause-bodies c = one_body
+
+pub returns-clause-requests : goal.returns-clause-requests
+returns-clause-requests c = one_whole
+
+pub returns-clause-accepted : goal.returns-clause-accepted
+returns-clause-accepted c = no_refused_head
+
+pub returns-clause-sized : goal.returns-clause-sized
+returns-clause-sized c = one_length
