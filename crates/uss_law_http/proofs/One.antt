@@ -1,6 +1,7 @@
 -- The same bytes begin with one request.
-use Rattle.std.proofs.Common.{◌≡◌, ℕ, ◌+◌, ◌-◌, ◌<◌, ◌≤◌, List, [], ◌∷◌, ◌++◌, length, take, drop, All, Some, None, refl, sym, ap, ◌∙◌, subst, arith, inl, inr, append_assoc, append-nil}
-use Rattle.std.specs.Prelude.{map}
+use Rattle.std.proofs.Common.{◌≡◌, ℕ, ◌+◌, ◌-◌, ◌<◌, ◌≤◌, List, [], ◌∷◌, ◌++◌, length, take, drop, All, Some, None, refl, sym, ap, ◌∙◌, subst, arith, inl, inr, ⊎_elim, take_all, append_assoc, append-nil}
+use Rattle.std.specs.Prelude.{map, is_some, true, ◌⊎◌}
+use Rattle.std.proofs.lemmas.Bool.{true≢false}
 use Rattle.std.proofs.Math.Seq.{take-append-add}
 use Rattle.std.proofs.lemmas.List.Elements.{All-head, All-tail}
 use Rattle.httparse.specs.Ascii.{crlf_bytes}
@@ -134,3 +135,95 @@ one_length n bytes b refusal.BadHead x bad = bad
 one_length n bytes b refusal.NoClient x bad = bad
 one_length n bytes b refusal.Fault x bad = bad
 one_length n bytes b refusal.Memory x bad = bad
+
+-- of heads that are refused for their fields there is one reason
+no_both : (bytes : List ℕ) → HasRefusedHead bytes refusal.BadHead → HasRefusedHead bytes refusal.NoClient → ⊥
+no_both bytes x y =
+    let t = one_tree bytes x.tree y.tree x.rest y.rest x.begins y.begins in
+    let none : framing_of (map name_and_value y.tree.fields) ≡ None = ap (λ (tree : RequestHead). framing_of (map name_and_value tree.fields)) (sym t.0) ∙ x.fields_are in
+    let some : is_some (framing_of (map name_and_value y.tree.fields)) ≡ true = y.fields_are.0 in
+    absurd (true≢false (sym some ∙ ap is_some none))
+
+-- a whole head is there, whatever its fields say
+not_open : (bytes rest : List ℕ) (h : RequestHead) → BeginsWith bytes h rest → IsOpenHead (take piece_limit bytes) → ⊥
+not_open bytes rest h x open_end = let f = reads_front bytes rest h x in open_end.none h f.0 f.1
+
+not_never : (bytes rest : List ℕ) (h : RequestHead) → BeginsWith bytes h rest → BeginsNoHead (take piece_limit bytes) → ⊥
+not_never bytes rest h x bad = let f = reads_front bytes rest h x in bad.never [] h f.0 (f.1.0, append-nil (take piece_limit bytes) ∙ f.1.1)
+
+not_cut : (bytes rest : List ℕ) (h : RequestHead) → BeginsWith bytes h rest → IsOpenHead bytes → ⊥
+not_cut bytes rest h x open_end = open_end.none h rest (x.valid, x.spelled)
+
+never_or_open : (front : List ℕ) → BeginsNoHead front → IsOpenHead front → ⊥
+never_or_open front bad open_end = ⊎_elim (λ may. bad.never may.0 may.1 [] may.2) (λ target. bad.outside target) open_end.may
+
+short : (bytes : List ℕ) → length bytes < piece_limit → IsOpenHead bytes → IsOpenHead (take piece_limit bytes)
+short bytes few open_end = subst IsOpenHead (sym (take_all piece_limit bytes (omega arith))) open_end
+
+pub one_reason : (bytes : List ℕ) (d e : ReadRefusal) → IsRefusedHead bytes d → IsRefusedHead bytes e → d ≡ e
+one_reason bytes refusal.HeadTooLarge refusal.HeadTooLarge x y = refl
+one_reason bytes refusal.HeadTooLarge refusal.BadHead x (inl bad) = absurd (never_or_open (take piece_limit bytes) bad x.1)
+one_reason bytes refusal.HeadTooLarge refusal.BadHead x (inr bad) = absurd (not_open bytes bad.rest bad.tree bad.begins x.1)
+one_reason bytes refusal.HeadTooLarge refusal.Truncated x y = let p = x.0 in let q = y.0 in absurd (omega arith)
+one_reason bytes refusal.HeadTooLarge refusal.NoClient x y = absurd (not_open bytes y.rest y.tree y.begins x.1)
+one_reason bytes refusal.HeadTooLarge refusal.BodyTooLarge x y = absurd y
+one_reason bytes refusal.HeadTooLarge refusal.BadChunk x y = absurd y
+one_reason bytes refusal.HeadTooLarge refusal.Fault x y = absurd y
+one_reason bytes refusal.HeadTooLarge refusal.Memory x y = absurd y
+one_reason bytes refusal.BadHead refusal.HeadTooLarge (inl bad) y = absurd (never_or_open (take piece_limit bytes) bad y.1)
+one_reason bytes refusal.BadHead refusal.HeadTooLarge (inr bad) y = absurd (not_open bytes bad.rest bad.tree bad.begins y.1)
+one_reason bytes refusal.BadHead refusal.BadHead x y = refl
+one_reason bytes refusal.BadHead refusal.Truncated (inl bad) y = absurd (never_or_open (take piece_limit bytes) bad (short bytes y.0 y.1))
+one_reason bytes refusal.BadHead refusal.Truncated (inr bad) y = absurd (not_cut bytes bad.rest bad.tree bad.begins y.1)
+one_reason bytes refusal.BadHead refusal.NoClient (inl bad) y = absurd (not_never bytes y.rest y.tree y.begins bad)
+one_reason bytes refusal.BadHead refusal.NoClient (inr bad) y = absurd (no_both bytes bad y)
+one_reason bytes refusal.BadHead refusal.BodyTooLarge x y = absurd y
+one_reason bytes refusal.BadHead refusal.BadChunk x y = absurd y
+one_reason bytes refusal.BadHead refusal.Fault x y = absurd y
+one_reason bytes refusal.BadHead refusal.Memory x y = absurd y
+one_reason bytes refusal.Truncated refusal.HeadTooLarge x y = let p = x.0 in let q = y.0 in absurd (omega arith)
+one_reason bytes refusal.Truncated refusal.BadHead x (inl bad) = absurd (never_or_open (take piece_limit bytes) bad (short bytes x.0 x.1))
+one_reason bytes refusal.Truncated refusal.BadHead x (inr bad) = absurd (not_cut bytes bad.rest bad.tree bad.begins x.1)
+one_reason bytes refusal.Truncated refusal.Truncated x y = refl
+one_reason bytes refusal.Truncated refusal.NoClient x y = absurd (not_cut bytes y.rest y.tree y.begins x.1)
+one_reason bytes refusal.Truncated refusal.BodyTooLarge x y = absurd y
+one_reason bytes refusal.Truncated refusal.BadChunk x y = absurd y
+one_reason bytes refusal.Truncated refusal.Fault x y = absurd y
+one_reason bytes refusal.Truncated refusal.Memory x y = absurd y
+one_reason bytes refusal.NoClient refusal.HeadTooLarge x y = absurd (not_open bytes x.rest x.tree x.begins y.1)
+one_reason bytes refusal.NoClient refusal.BadHead x (inl bad) = absurd (not_never bytes x.rest x.tree x.begins bad)
+one_reason bytes refusal.NoClient refusal.BadHead x (inr bad) = absurd (no_both bytes bad x)
+one_reason bytes refusal.NoClient refusal.Truncated x y = absurd (not_cut bytes x.rest x.tree x.begins y.1)
+one_reason bytes refusal.NoClient refusal.NoClient x y = refl
+one_reason bytes refusal.NoClient refusal.BodyTooLarge x y = absurd y
+one_reason bytes refusal.NoClient refusal.BadChunk x y = absurd y
+one_reason bytes refusal.NoClient refusal.Fault x y = absurd y
+one_reason bytes refusal.NoClient refusal.Memory x y = absurd y
+one_reason bytes refusal.BodyTooLarge e x y = absurd x
+one_reason bytes refusal.BadChunk e x y = absurd x
+one_reason bytes refusal.Fault e x y = absurd x
+one_reason bytes refusal.Memory e x y = absurd x
+
+pub one_sized_reason : (n : ℕ) (bytes : List ℕ) (d e : ReadRefusal) → IsRefusedBody (Length n) bytes d → IsRefusedBody (Length n) bytes e → d ≡ e
+one_sized_reason n bytes refusal.BodyTooLarge refusal.BodyTooLarge x y = refl
+one_sized_reason n bytes refusal.BodyTooLarge refusal.Truncated x y = let q = y.0 in absurd (omega arith)
+one_sized_reason n bytes refusal.Truncated refusal.BodyTooLarge x y = let p = x.0 in absurd (omega arith)
+one_sized_reason n bytes refusal.Truncated refusal.Truncated x y = refl
+one_sized_reason n bytes refusal.BodyTooLarge refusal.BadChunk x y = absurd y
+one_sized_reason n bytes refusal.BodyTooLarge refusal.HeadTooLarge x y = absurd y
+one_sized_reason n bytes refusal.BodyTooLarge refusal.BadHead x y = absurd y
+one_sized_reason n bytes refusal.BodyTooLarge refusal.NoClient x y = absurd y
+one_sized_reason n bytes refusal.BodyTooLarge refusal.Fault x y = absurd y
+one_sized_reason n bytes refusal.BodyTooLarge refusal.Memory x y = absurd y
+one_sized_reason n bytes refusal.Truncated refusal.BadChunk x y = absurd y
+one_sized_reason n bytes refusal.Truncated refusal.HeadTooLarge x y = absurd y
+one_sized_reason n bytes refusal.Truncated refusal.BadHead x y = absurd y
+one_sized_reason n bytes refusal.Truncated refusal.NoClient x y = absurd y
+one_sized_reason n bytes refusal.Truncated refusal.Fault x y = absurd y
+one_sized_reason n bytes refusal.Truncated refusal.Memory x y = absurd y
+one_sized_reason n bytes refusal.BadChunk e x y = absurd x
+one_sized_reason n bytes refusal.HeadTooLarge e x y = absurd x
+one_sized_reason n bytes refusal.BadHead e x y = absurd x
+one_sized_reason n bytes refusal.NoClient e x y = absurd x
+one_sized_reason n bytes refusal.Fault e x y = absurd x
+one_sized_reason n bytes refusal.Memory e x y = absurd x

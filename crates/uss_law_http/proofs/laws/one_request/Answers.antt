@@ -1,4 +1,4 @@
-use Rattle.uss_law_http.proofs.One.{one_head, one_body, one_whole, no_refused_head, one_length}
+use Rattle.uss_law_http.proofs.One.{one_head, one_body, one_whole, no_refused_head, one_length, one_reason, one_sized_reason}
 use Rattle.uss_law_http.proofs.laws.one_request.Goals as goal
 
 pub returns-clause-heads : goal.returns-clause-heads
@@ -15,3 +15,9 @@ returns-clause-accepted c = no_refused_head
 
 pub returns-clause-sized : goal.returns-clause-sized
 returns-clause-sized c = one_length
+
+pub returns-clause-one_reason : goal.returns-clause-one_reason
+returns-clause-one_reason c = one_reason
+
+pub returns-clause-one_sized_reason : goal.returns-clause-one_sized_reason
+returns-clause-one_sized_reason c = one_sized_reason
