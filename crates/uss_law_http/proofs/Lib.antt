@@ -1,1 +1,3 @@
 pub mod One
+pub mod Ends
+pub mod Same

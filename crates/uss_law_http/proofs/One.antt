@@ -1,11 +1,11 @@
 -- The same bytes begin with one request.
-use Rattle.std.proofs.Common.{◌≡◌, ℕ, ◌+◌, ◌-◌, ◌<◌, ◌≤◌, List, [], ◌∷◌, ◌++◌, length, take, drop, All, Some, None, refl, sym, ap, ◌∙◌, subst, arith, inl, inr, ⊎_elim, take_all, append_assoc, append-nil}
-use Rattle.std.specs.Prelude.{map, is_some, true, ◌⊎◌}
+use Rattle.std.proofs.Common.{◌≡◌, ℕ, ◌+◌, ◌-◌, ◌<◌, List, [], ◌∷◌, ◌++◌, length, take, All, Some, None, refl, sym, ap, ◌∙◌, subst, arith, inl, inr, ⊎_elim, take_all, append_assoc, append-nil}
+use Rattle.std.specs.Prelude.{map, is_some, true}
 use Rattle.std.proofs.lemmas.Bool.{true≢false}
 use Rattle.std.proofs.Math.Seq.{take-append-add}
 use Rattle.std.proofs.lemmas.List.Elements.{All-head, All-tail}
 use Rattle.httparse.specs.Ascii.{crlf_bytes}
-use Rattle.httparse.specs.Grammar.{RequestHead, IsRequestHead, print_request, ReadsRequest, ChunkLine, IsChunkLine, print_chunk_line, chunk_size}
+use Rattle.httparse.specs.Grammar.{RequestHead, print_request, ReadsRequest, ChunkLine, IsChunkLine, print_chunk_line, chunk_size}
 use Rattle.httparse.specs.Spans.{name_and_value}
 use Rattle.httparse.proofs.GrammarLemmas.{request_unique}
 use Rattle.httparse.proofs.ChunkLemmas.{chunk_line_unique}
@@ -19,7 +19,7 @@ use Rattle.uss_http_base.specs.Pieces.{piece_limit}
 use Rattle.uss_http_base.specs.Fields.{framing_of, client_of}
 use Rattle.uss_http_base.specs.Heads.{BeginsWith, IsOpenHead, BeginsNoHead}
 use Rattle.uss_http_base.specs.HeadAnswers.{IsHeadWith, HasHead, HasRefusedHead, IsRefusedHead}
-use Rattle.uss_http_base.specs.Chunks.{Chunk, print_chunk, IsChunk, chunks_text, body_of, IsLastLine, IsChunked}
+use Rattle.uss_http_base.specs.Chunks.{Chunk, print_chunk, IsChunk, chunks_text, body_of, IsLastLine}
 use Rattle.uss_http_base.specs.Bodies.{IsBody, IsRefusedBody}
 use Rattle.uss_http_base.specs.Requests.{IsRequest}
 
@@ -71,7 +71,7 @@ no_refused_head bytes h r refusal.BadChunk x bad = bad
 no_refused_head bytes h r refusal.Fault x bad = bad
 no_refused_head bytes h r refusal.Memory x bad = bad
 
-same_front : (xs ys us vs : List ℕ) → length xs ≡ length ys → xs ++ us ≡ ys ++ vs → (xs ≡ ys) × (us ≡ vs)
+pub same_front : (xs ys us vs : List ℕ) → length xs ≡ length ys → xs ++ us ≡ ys ++ vs → (xs ≡ ys) × (us ≡ vs)
 same_front [] [] us vs n e = (refl, e)
 same_front [] (y ∷ ys) us vs n e = absurd (omega arith)
 same_front (x ∷ xs) [] us vs n e = absurd (omega arith)
@@ -82,10 +82,10 @@ same_front (x ∷ xs) (y ∷ ys) us vs n e =
     ((λ i. head i ∷ h.0 i), h.1)
 
 -- the line at the front, and what follows it
-lines : (l m : ChunkLine) (r q : List ℕ) → IsChunkLine l → IsChunkLine m → print_chunk_line l ++ r ≡ print_chunk_line m ++ q → (l ≡ m) × (r ≡ q)
+pub lines : (l m : ChunkLine) (r q : List ℕ) → IsChunkLine l → IsChunkLine m → print_chunk_line l ++ r ≡ print_chunk_line m ++ q → (l ≡ m) × (r ≡ q)
 lines l m r q x y e = chunk_line_unique (print_chunk_line l ++ r) l m r q (x, refl) (y, e)
 
-group : (c : Chunk) (cs : List Chunk) (tail : List ℕ) → (print_chunk c ++ chunks_text cs) ++ tail ≡ print_chunk_line c.line ++ (c.bytes ++ (crlf_bytes ++ (chunks_text cs ++ tail)))
+pub group : (c : Chunk) (cs : List Chunk) (tail : List ℕ) → (print_chunk c ++ chunks_text cs) ++ tail ≡ print_chunk_line c.line ++ (c.bytes ++ (crlf_bytes ++ (chunks_text cs ++ tail)))
 group c cs tail = simp append_assoc
 
 zero_size : (l m : ChunkLine) → l ≡ m → chunk_size l ≡ 0 → 0 < chunk_size m → ⊥

@@ -1,21 +1,29 @@
-ghost use Rattle.std.specs.Prelude.{◌≡◌, ℕ, List};
+ghost use Rattle.std.specs.Prelude.{◌≡◌, ℕ, List, Result};
 ghost use Rattle.uss_http_base.specs.declared.fields.Framing.{Framing};
 ghost use Rattle.uss_http_base.specs.declared.heads.Head.{Head};
 ghost use Rattle.uss_http_base.specs.declared.refusal.ReadRefusal.{ReadRefusal};
 ghost use Rattle.uss_http_base.specs.declared.request.Request.{Request};
 ghost use Rattle.uss_http_base.specs.HeadAnswers.{HasHead, IsRefusedHead};
 ghost use Rattle.uss_http_base.specs.Bodies.{IsBody, IsRefusedBody};
-ghost use Rattle.uss_http_base.specs.Requests.{IsRequest};
+ghost use Rattle.uss_http_base.specs.Requests.{IsAnswerOf};
+ghost use Rattle.uss_law_http.specs.Found.{IsByTheBytes};
 
-/// The same bytes begin with one request: with one head, and behind it with one body of its framing. Bytes that begin
-/// with an accepted head are refused for no head, and others for one reason; a body of a length is whole or refused for one
-/// reason, and not both. The function does nothing: its contract carries the laws.
-pub fn one_request()
+/// The same bytes have one answer: one request at their front, or one reason why there is none, and not both. The
+/// function does nothing: its contract carries the law.
+pub fn one_answer()
+    ensures { (bytes : List ℕ) (a b : Result Request ReadRefusal) → IsByTheBytes a → IsByTheBytes b → IsAnswerOf bytes a → IsAnswerOf bytes b → a ≡ b }
+{}
+
+/// Bytes begin with one accepted head, and the same bytes follow it; or they are refused for one reason, and not both.
+pub fn one_head()
     ensures heads { (bytes : List ℕ) (h k : Head) (r q : List ℕ) → HasHead bytes h r → HasHead bytes k q → (h ≡ k) × (r ≡ q) }
-    ensures bodies { (framing : Framing) (bytes b c : List ℕ) → IsBody framing bytes b → IsBody framing bytes c → b ≡ c }
-    ensures requests { (bytes : List ℕ) (r q : Request) → IsRequest bytes r → IsRequest bytes q → r ≡ q }
     ensures accepted { (bytes : List ℕ) (h : Head) (r : List ℕ) (e : ReadRefusal) → HasHead bytes h r → IsRefusedHead bytes e → ⊥ }
-    ensures one_reason { (bytes : List ℕ) (d e : ReadRefusal) → IsRefusedHead bytes d → IsRefusedHead bytes e → d ≡ e }
-    ensures one_sized_reason { (n : ℕ) (bytes : List ℕ) (d e : ReadRefusal) → IsRefusedBody (Framing.Length n) bytes d → IsRefusedBody (Framing.Length n) bytes e → d ≡ e }
-    ensures sized { (n : ℕ) (bytes b : List ℕ) (e : ReadRefusal) → IsBody (Framing.Length n) bytes b → IsRefusedBody (Framing.Length n) bytes e → ⊥ }
+    ensures reasons { (bytes : List ℕ) (d e : ReadRefusal) → IsRefusedHead bytes d → IsRefusedHead bytes e → d ≡ e }
+{}
+
+/// Bytes begin with one body of a framing, or are refused for one reason, and not both.
+pub fn one_body()
+    ensures bodies { (framing : Framing) (bytes b c : List ℕ) → IsBody framing bytes b → IsBody framing bytes c → b ≡ c }
+    ensures accepted { (framing : Framing) (bytes b : List ℕ) (e : ReadRefusal) → IsBody framing bytes b → IsRefusedBody framing bytes e → ⊥ }
+    ensures reasons { (framing : Framing) (bytes : List ℕ) (d e : ReadRefusal) → IsRefusedBody framing bytes d → IsRefusedBody framing bytes e → d ≡ e }
 {}
