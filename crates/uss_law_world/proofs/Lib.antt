@@ -18,3 +18,4 @@ pub mod WorkedRuns
 pub mod Product
 pub mod Between
 pub mod EachStep
+pub mod Contested

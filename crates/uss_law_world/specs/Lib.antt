@@ -4,3 +4,4 @@ pub mod Free
 pub mod Suppliers
 pub mod Claims
 pub mod Worked
+pub mod Contested

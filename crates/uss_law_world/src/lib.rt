@@ -2,11 +2,11 @@
 //! that runs.
 //!
 //! `specs/World.antt` has the world, `specs/Moves.antt` what may happen in it and what comes of that, `specs/Free.antt` which lists of
-//! moves are free, `specs/Claims.antt` what is claimed, and `specs/Worked.antt` three worked runs. In a free list of moves each step of a
-//! supplier is any that its duties allow (`MayStep` of `uss_law_duty`), and each step of the discovery service is that of its definition
-//! (`service_step` of `uss_law_dss`); messages are lost, come late or come again, and suppliers stop and restart at any moment. The
-//! functions below do nothing: their contracts carry the laws. `proofs/Facts.antt` has what is kept by every move; the proofs of the
-//! laws stand on nothing else.
+//! moves are free, `specs/Claims.antt` what is claimed, and `specs/Worked.antt` and `specs/Contested.antt` worked runs. In a free list of
+//! moves each step of a supplier is any that its duties allow (`MayStep` of `uss_law_duty`), and each step of the discovery service is
+//! that of its definition (`service_step` of `uss_law_dss`); messages are lost, come late or come again, and suppliers stop and restart
+//! at any moment. The functions below do nothing: their contracts carry the laws. `proofs/Facts.antt` has what is kept by every move;
+//! the proofs of the laws stand on nothing else.
 //!
 //! Which clauses of `MayStep` the laws need: all of them `legal` and `records`; `keys`, `hears`, `pair`, `notes` and `held` that intents
 //! stay apart, that landings are clear and that pairs are made; `held`, `removals` and `final` that final answers are true; `held`,
@@ -28,6 +28,7 @@ ghost use Rattle.uss_law_world.specs.Moves.{Move, step_of, run};
 ghost use Rattle.uss_event.specs.declared.steps.Step.{Step};
 ghost use Rattle.uss_law_world.specs.Free.{AreSuppliers, IsFree};
 ghost use Rattle.uss_law_world.specs.Worked.{said_in, replies_in, saying, found_again, found_again_replies, cancelled_early, cancelled_early_replies, second, both_put, both_put_replies};
+ghost use Rattle.uss_law_world.specs.Contested.{given_up, given_up_replies, given_up_sayings};
 ghost use Rattle.uss_law_world.specs.Claims.{EachIsIntended, NoneForbidden, EachAtMostOnce, FinalAnswersAreTrue, LandingsAreClear, RefusalsAreSettled, EachPairIsMade, OpenLandingsStay, OpenLandingsAreGot, BooksAgree};
 
 /// The headline, first part: after every free list of moves no two recorded intents, both Accepted or Activated, of one priority at which
@@ -99,6 +100,14 @@ pub fn a_late_put_lands_nothing()
 pub fn one_of_two_puts_lands()
     ensures free { IsFree (start (owner ∷ second ∷ [])) both_put }
     ensures replies { replies_in (run (start (owner ∷ second ∷ [])) both_put) ≡ both_put_replies }
+{}
+
+/// The same run goes on: the second supplier asks the first for the details of its intent, hears that it stands against the plan, lets
+/// its ticket go and says that the request is in conflict.
+pub fn the_second_of_two_gives_up()
+    ensures free { IsFree (start (owner ∷ second ∷ [])) given_up }
+    ensures replies { replies_in (run (start (owner ∷ second ∷ [])) given_up) ≡ given_up_replies }
+    ensures said { said_in (run (start (owner ∷ second ∷ [])) given_up) ≡ given_up_sayings }
 {}
 
 /// Up to 64 suppliers that are numbered from 1 on and named so, with one table of rules, are suppliers with names of their own: what is

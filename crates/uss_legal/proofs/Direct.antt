@@ -1,0 +1,138 @@
+-- What a book tells, by tests on its entries.
+use Rattle.std.proofs.Common.{ℕ, suc, ◌==◌, Bool, true, false, cond, ◌||◌, ◌&&◌, List, [], ◌∷◌, ◌≡◌, filter, length, refl, ap, Some}
+use Rattle.std.specs.List.{list_any, find}
+use Rattle.std.specs.Option.{option_and_then}
+use Rattle.uss_event.specs.declared.entries.Entry.{Entry}
+use Rattle.uss_event.specs.declared.entries.Entry.TheVariants.{Opened, TicketOpen, Pending, Held, Deciding, Done, TicketGone, Sent}
+use Rattle.uss_law_book.specs.Lists.{Opening, Trial, Holding, Closing, openings, trials, tickets_gone}
+use Rattle.uss_law_book.specs.Readings.{opening_of, is_held, is_done, trials_of, trial_of, owns, decision_of, holding_of, ending_of, is_ticket_open, is_told, is_one_of}
+use Rattle.uss_legal.specs.Speaks.{is_of, speaks_of, tries, tries_with, tells, opening_in, trial_in, holding_in, decision_in, ending_in}
+
+pub held_by_any : (job : ℕ) (es : List Entry) → list_any (speaks_of 5 job) es ≡ is_held job es
+unfolding is_held
+held_by_any job [] = refl
+held_by_any job (Held j tag ovn version owed ∷ es) = ap (λ b. (j == job) || b) (held_by_any job es)
+held_by_any job (_ ∷ es) = held_by_any job es
+
+pub done_by_any : (job : ℕ) (es : List Entry) → list_any (speaks_of 7 job) es ≡ is_done job es
+unfolding is_done
+done_by_any job [] = refl
+done_by_any job (Done j end ∷ es) = ap (λ b. (j == job) || b) (done_by_any job es)
+done_by_any job (_ ∷ es) = done_by_any job es
+
+pub ticket_by_any : (job : ℕ) (es : List Entry) → list_any (speaks_of 3 job) es ≡ is_ticket_open job es
+unfolding is_ticket_open
+ticket_by_any job [] = refl
+ticket_by_any job (TicketOpen j ∷ es) = ap (λ b. (j == job) || b) (ticket_by_any job es)
+ticket_by_any job (_ ∷ es) = ticket_by_any job es
+
+pub gone_by_any : (job : ℕ) (es : List Entry) → list_any (speaks_of 8 job) es ≡ is_one_of job (tickets_gone es)
+gone_by_any job [] = refl
+gone_by_any job (TicketGone j ∷ es) = ap (λ b. (j == job) || b) (gone_by_any job es)
+gone_by_any job (_ ∷ es) = gone_by_any job es
+
+pub owns_by_any : (job tag : ℕ) (es : List Entry) → list_any (tries job tag) es ≡ owns job tag es
+unfolding owns
+owns_by_any job tag [] = refl
+owns_by_any job tag (Pending j t alternative previous key ∷ es) = ap (λ b. ((j == job) && (t == tag)) || b) (owns_by_any job tag es)
+owns_by_any job tag (_ ∷ es) = owns_by_any job tag es
+
+pub told_by_any : (job place : ℕ) (es : List Entry) → list_any (tells job place) es ≡ is_told job place es
+unfolding is_told
+told_by_any job place [] = refl
+told_by_any job place (Sent j p ∷ es) = ap (λ b. ((j == job) && (p == place)) || b) (told_by_any job place es)
+told_by_any job place (_ ∷ es) = told_by_any job place es
+
+-- look-ups
+pub opening_by_find : (job : ℕ) (es : List Entry) → opening_of job es ≡ option_and_then opening_in (find (speaks_of 2 job) es)
+unfolding opening_of
+opening_by_find job [] = refl
+opening_by_find job (Opened j moment ask ∷ es) = found (j == job) (opening_by_find job es)
+  where
+    o : Opening
+    o = record { job = j; moment = moment; ask = ask }
+
+    found : (b : Bool) → opening_of job es ≡ option_and_then opening_in (find (speaks_of 2 job) es) → cond b (Some o) (opening_of job es) ≡ option_and_then opening_in (cond b (Some (Opened j moment ask)) (find (speaks_of 2 job) es))
+    found true h = refl
+    found false h = h
+opening_by_find job (_ ∷ es) = opening_by_find job es
+
+pub trial_by_find : (tag : ℕ) (es : List Entry) → trial_of tag es ≡ option_and_then trial_in (find (tries_with tag) es)
+unfolding trial_of
+trial_by_find tag [] = refl
+trial_by_find tag (Pending job t alternative previous key ∷ es) = found (t == tag) (trial_by_find tag es)
+  where
+    o : Trial
+    o = record { job = job; tag = t; alternative = alternative; previous = previous; key = key }
+
+    found : (b : Bool) → trial_of tag es ≡ option_and_then trial_in (find (tries_with tag) es)
+        → cond b (Some o) (trial_of tag es) ≡ option_and_then trial_in (cond b (Some (Pending job t alternative previous key)) (find (tries_with tag) es))
+    found true h = refl
+    found false h = h
+trial_by_find tag (_ ∷ es) = trial_by_find tag es
+
+pub holding_by_find : (job : ℕ) (es : List Entry) → holding_of job es ≡ option_and_then holding_in (find (speaks_of 5 job) es)
+unfolding holding_of
+holding_by_find job [] = refl
+holding_by_find job (Held j tag ovn version owed ∷ es) = found (j == job) (holding_by_find job es)
+  where
+    o : Holding
+    o = record { job = j; tag = tag; ovn = ovn; version = version; owed = owed }
+
+    found : (b : Bool) → holding_of job es ≡ option_and_then holding_in (find (speaks_of 5 job) es) → cond b (Some o) (holding_of job es) ≡ option_and_then holding_in (cond b (Some (Held j tag ovn version owed)) (find (speaks_of 5 job) es))
+    found true h = refl
+    found false h = h
+holding_by_find job (_ ∷ es) = holding_by_find job es
+
+pub decision_by_find : (job : ℕ) (es : List Entry) → decision_of job es ≡ option_and_then decision_in (find (speaks_of 6 job) es)
+unfolding decision_of
+decision_by_find job [] = refl
+decision_by_find job (Deciding j end ∷ es) = found (j == job) (decision_by_find job es)
+  where
+    o : Closing
+    o = record { job = j; end = end }
+
+    found : (b : Bool) → decision_of job es ≡ option_and_then decision_in (find (speaks_of 6 job) es) → cond b (Some o) (decision_of job es) ≡ option_and_then decision_in (cond b (Some (Deciding j end)) (find (speaks_of 6 job) es))
+    found true h = refl
+    found false h = h
+decision_by_find job (_ ∷ es) = decision_by_find job es
+
+pub ending_by_find : (job : ℕ) (es : List Entry) → ending_of job es ≡ option_and_then ending_in (find (speaks_of 7 job) es)
+unfolding ending_of
+ending_by_find job [] = refl
+ending_by_find job (Done j end ∷ es) = found (j == job) (ending_by_find job es)
+  where
+    o : Closing
+    o = record { job = j; end = end }
+
+    found : (b : Bool) → ending_of job es ≡ option_and_then ending_in (find (speaks_of 7 job) es) → cond b (Some o) (ending_of job es) ≡ option_and_then ending_in (cond b (Some (Done j end)) (find (speaks_of 7 job) es))
+    found true h = refl
+    found false h = h
+ending_by_find job (_ ∷ es) = ending_by_find job es
+
+-- counts
+pub jobs_by_count : (es : List Entry) → length (filter (is_of 2) es) ≡ length (openings es)
+jobs_by_count [] = refl
+jobs_by_count (Opened j moment ask ∷ es) = ap (λ n. suc n) (jobs_by_count es)
+jobs_by_count (_ ∷ es) = jobs_by_count es
+
+pub tags_by_count : (es : List Entry) → length (filter (is_of 4) es) ≡ length (trials es)
+tags_by_count [] = refl
+tags_by_count (Pending job tag alternative previous key ∷ es) = ap (λ n. suc n) (tags_by_count es)
+tags_by_count (_ ∷ es) = tags_by_count es
+
+pub attempts_by_count : (job : ℕ) (es : List Entry) → length (filter (speaks_of 4 job) es) ≡ length (trials_of job es)
+unfolding trials_of
+attempts_by_count job [] = refl
+attempts_by_count job (Pending j tag alternative previous key ∷ es) = one_more (j == job) (attempts_by_count job es)
+  where
+    t : Trial
+    t = record { job = j; tag = tag; alternative = alternative; previous = previous; key = key }
+
+    e : Entry
+    e = Pending j tag alternative previous key
+
+    one_more : (b : Bool) → length (filter (speaks_of 4 job) es) ≡ length (trials_of job es) → length (cond b (e ∷ filter (speaks_of 4 job) es) (filter (speaks_of 4 job) es)) ≡ length (cond b (t ∷ trials_of job es) (trials_of job es))
+    one_more true h = ap (λ n. suc n) h
+    one_more false h = h
+attempts_by_count job (_ ∷ es) = attempts_by_count job es

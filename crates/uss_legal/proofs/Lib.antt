@@ -1,0 +1,3 @@
+pub mod Direct
+pub mod Last
+pub mod Tested

@@ -1,0 +1,2 @@
+pub mod Speaks
+pub mod Due

@@ -1,0 +1,19 @@
+//! What a supplier's book tells, and whether a further entry may follow.
+//!
+//! `Tells` is what any form of a book answers: each answer is a filter or a look-up in the list of its entries. `Plain` is the list
+//! itself, searched from its beginning: slow, and plain to read.
+#![tactic(auto)]
+
+mod due;
+mod flights;
+mod law;
+mod plain;
+mod speaks;
+mod tells;
+#[cfg(test)]
+mod tests;
+
+pub use due::{may_decide, may_hold, may_open_ticket, may_retire, may_tell, may_try};
+pub use law::tests_are_exact;
+pub use plain::Plain;
+pub use tells::Tells;
