@@ -8,7 +8,9 @@ mod writing;
 
 pub use changes::read_change_answer;
 pub use errors::{ErrorBody, read_error};
-pub use writing::{write_change_answer, write_get_answer, write_query_answer};
+pub use writing::{
+    references_are_read_again, write_change_answer, write_get_answer, write_query_answer,
+};
 
 #[cfg(test)]
 mod tests;

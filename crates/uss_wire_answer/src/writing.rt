@@ -1,6 +1,11 @@
-ghost use Rattle.std.specs.Prelude.{◌≡◌, IfOk};
+ghost use Rattle.std.specs.Prelude.{◌≡◌, ◌≤◌, ℕ, List, length, Ok, IfOk};
 ghost use Rattle.serde_json.specs.View.{view};
-ghost use Rattle.uss_wire_base.specs.Writing.{IsTextOf};
+ghost use Rattle.uss_wire_base.specs.Writing.{IsTextOf, AllOf, list_json};
+ghost use Rattle.uss_intent.specs.declared.records.Reference.{Reference};
+ghost use Rattle.uss_wire_base.specs.declared.refusal.Member.{Member};
+ghost use Rattle.uss_wire_intent.specs.References.{answered_reference_at, references_at};
+ghost use Rattle.uss_wire_intent.specs.Writing.{reference_json};
+ghost use Rattle.uss_wire_answer.specs.Writing.{IsReadable};
 ghost use Rattle.uss_wire_answer.specs.Writing as spec;
 
 use serde_json::{Value, json};
@@ -65,3 +70,11 @@ pub fn write_change_answer(
     let value = change_answer(alloc, reference, subscribers)?;
     message(alloc, &value)
 }
+
+/// A reference that is written is read again as the same by the client that it was shown to, and so is a list of at most 4,096. The
+/// function does nothing.
+pub fn references_are_read_again()
+    ensures one { (client : List ℕ) (place : Member) (r : Reference) → IsReadable client r → answered_reference_at client place (reference_json r) ≡ Ok r }
+    ensures list { (client : List ℕ) (place : Member) (rs : List Reference) → AllOf (IsReadable client) rs → length rs ≤ 4096
+        → references_at client place (list_json reference_json rs) ≡ Ok rs }
+{}
