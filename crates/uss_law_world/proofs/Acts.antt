@@ -309,6 +309,9 @@ module _ (table : List ℕ) (owners : List Owner) (w : World) (names : AreSuppli
   remove_is : (o : Opening) (flight : ℕ) (ovn x : List ℕ) → Asks.Remove flight ovn ≡ Asks.Remove (flight_of m.owner o) x → ovn ≡ x
   remove_is o flight ovn x e = cc
 
+  remove_flight : (o : Opening) (flight : ℕ) (ovn x : List ℕ) → Asks.Remove flight ovn ≡ Asks.Remove (flight_of m.owner o) x → flight ≡ flight_of m.owner o
+  remove_flight o flight ovn x e = cc
+
   ticket_is : (job ticket version : ℕ) → Asks.TicketRemove ticket version ≡ ticket_remove m.owner job → ticket ≡ ticket_number m.owner.number job
   ticket_is job ticket version e = cc
 
@@ -322,7 +325,17 @@ module _ (table : List ℕ) (owners : List Owner) (w : World) (names : AreSuppli
       }
   call_due job (Asks.Remove flight ovn) h k =
       let x = based after h.opening.ask.flight h.ovn h.base in
-      record { holding = x.0; entered = subst (λ b. Has (holdings b) x.0) (sym after_is) x.1; ovn_is = x.2 ∙ sym (remove_is h.opening flight ovn h.ovn h.is) }
+      let i = opening_has after job h.opening h.opened in
+      let f : flight ≡ flight_number m.owner.number h.opening.ask.flight = remove_flight h.opening flight ovn h.ovn h.is in
+      record {
+        names = record { holding = x.0; entered = subst (λ b. Has (holdings b) x.0) (sym after_is) x.1; ovn_is = x.2 ∙ sym (remove_is h.opening flight ovn h.ovn h.is) };
+        ends = record {
+          opening = h.opening;
+          opened = subst (λ b. Has (openings b) h.opening) (sym after_is) i.0;
+          end = h.end;
+          flight_is = f ∙ ap (λ n. flight_number n h.opening.ask.flight) number_is;
+        };
+      }
   call_due job (Asks.TicketRemove ticket version) h k =
       let o = lose_opening job k.may in
       record {
@@ -605,6 +618,7 @@ module _ (table : List ℕ) (owners : List Owner) (w : World) (names : AreSuppli
         recorded = λ r h. inl h;
         apart = λ r q h i. inl (h, i);
         standing = λ l h. elim (j.standing l h) [ inl e ↦ inl (entered_still grows l e) | inr r ↦ inr (record { recorded = r.recorded; there = r.there; ovn_is = r.ovn_is }) ];
+        retired = λ n h. inl h;
         closed = λ k d. each k (λ b z. Has (endings b) d → Has (endings (book_of k w)) d ⊎ EndingShows v k d) (λ e h. ending_at k d e h) (λ h. inl h);
         sayings = λ x h. elim (has_push w.sayings (saying_of a c after) x h) [ inl old ↦ inl old | inr e ↦ inr (new_saying x e) ];
       }

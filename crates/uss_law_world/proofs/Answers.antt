@@ -91,7 +91,7 @@ run_says (m ∷ ms) w x h = run_says ms (happens w m) x (move_says w m x h)
 
 module _ (table : List ℕ) (owners : List Owner) (w : World) (names : AreSuppliers table owners) (j : Facts table owners w) where
   recorded_so : (s : ℕ) (o : Opening) (h : Holding) (t : Trial) → IsOrderly (book_of s w) → Has (openings (book_of s w)) o → Has (holdings (book_of s w)) h → h.job ≡ o.job → Has (trials (book_of s w)) t → t.tag ≡ h.tag
-      → IsRecordedSo w s o.job (flight_number s o.ask.flight) h.tag t.alternative h.ovn
+      → IsRecordedSo w s o.job (flight_number s o.ask.flight) h.tag t.alternative h.ovn h.version
   recorded_so s o h t r i k e n q =
       let m = j.entered s h k in
       let own = r.own h k in
@@ -104,12 +104,13 @@ module _ (table : List ℕ) (owners : List Owner) (w : World) (names : AreSuppli
         tag_is = m.tag_is;
         ovn_is = m.ovn;
         alternative_is = refl;
+        version_is = m.rank;
       }
 
   by_holding : (s : ℕ) (o : Opening) (answer : Answer) → IsOrderly (book_of s w) → Has (openings (book_of s w)) o → IsByHolding (book_of s w) s o answer → IsTrueAnswer w s o.job answer
   by_holding s o answer r i b = go (is_none b.trial.previous) b.is
     where
-      so : IsRecordedSo w s o.job (flight_number s o.ask.flight) b.holding.tag b.trial.alternative b.holding.ovn
+      so : IsRecordedSo w s o.job (flight_number s o.ask.flight) b.holding.tag b.trial.alternative b.holding.ovn b.holding.version
       so = let t = trial_has (book_of s w) b.holding.tag b.trial b.tried in recorded_so s o b.holding b.trial r i b.entered b.job t.0 t.1
 
       go : (x : Bool)

@@ -4,15 +4,19 @@ use Rattle.std.specs.List.{last_or}
 use Rattle.std.specs.Option.{option_map}
 use Rattle.std.proofs.lemmas.List.{append-nil, append_assoc}
 use Rattle.std.proofs.lemmas.List.Elements.{filter-append}
+use Rattle.uss_event.specs.declared.asks.Wish.{Wish}
+use Rattle.uss_event.specs.declared.asks.Wish.TheVariants.{Put, End}
+use Rattle.uss_event.specs.declared.entries.Ending.{Ending}
+use Rattle.uss_event.specs.declared.entries.Ending.TheVariants as Ends
 use Rattle.uss_event.specs.declared.entries.Entry.{Entry}
-use Rattle.uss_event.specs.declared.entries.Entry.TheVariants.{Opened, Held}
+use Rattle.uss_event.specs.declared.entries.Entry.TheVariants.{Opened, Held, Done}
 use Rattle.uss_law_dss.specs.Lists.{Has}
 use Rattle.uss_law_dss.proofs.Lists.{has_left, any_true, list_any_has}
 use Rattle.uss_law_dss.proofs.Tests.{same_number, equal_number, both, and_true, not_both, some_same}
 use Rattle.uss_law_book.specs.Lists.{Opening, Trial, Holding, Closing, openings, trials, holdings, endings}
 use Rattle.uss_law_book.specs.Readings.{opening_of, is_closed, is_for, is_job_of, is_ended, has_ended, holdings_of, last_holding, holding, base_of}
 use Rattle.uss_law_book.specs.Coding.{HasCoding}
-use Rattle.uss_law_book.specs.Legal.{IsDue, MayFollow, MayAllFollow, IsLegal}
+use Rattle.uss_law_book.specs.Legal.{EndsFlight, EndsWish, IsDue, MayFollow, MayAllFollow, IsLegal}
 use Rattle.uss_law_book.specs.Orderly.{IsOrderly}
 use Rattle.uss_law_book.proofs.Finds.{filter_agrees, none_filtered}
 use Rattle.uss_law_book.proofs.Entries.{openings_append, holdings_append, endings_append, opening_stays, trial_stays, which_opening, which_trial, which_holding, which_ending, closed_by_either, unclosed_before, new_trial, new_holding, new_opening, new_ending}
@@ -47,6 +51,8 @@ pub record BookFacts (book : List Entry) : Type 0 where
   -- where a flight has ended, each of its jobs is closed
   pub ended : (d : Closing) (p o : Opening) → Has (endings book) d → is_ended d.end ≡ true → Has (openings book) p → p.job ≡ d.job → Has (openings book) o → o.ask.flight ≡ p.ask.flight
       → is_closed o.job book ≡ true
+  -- a job that is to end its flight ends so
+  pub ends : (d : Closing) (o : Opening) → Has (endings book) d → Has (openings book) o → o.job ≡ d.job → o.ask.wish ≡ End → is_ended d.end ≡ true
   -- a request opened at most one job
   pub once : (flight number : ℕ) → length (filter (is_request flight number) (openings book)) ≤ 1
 
@@ -83,7 +89,7 @@ ended_tells book flight h =
     let j = job_of book flight a.0.job b.1 in
     record { closing = a.0; opening = j.0; entered = a.1; is = b.0; opened = j.1; job = j.2; flight_is = j.3 }
 
-ended_is : (book : List Entry) (d : Closing) (p : Opening) → IsOrderly book → Has (endings book) d → is_ended d.end ≡ true → Has (openings book) p → p.job ≡ d.job → has_ended p.ask.flight book ≡ true
+pub ended_is : (book : List Entry) (d : Closing) (p : Opening) → IsOrderly book → Has (endings book) d → is_ended d.end ≡ true → Has (openings book) p → p.job ≡ d.job → has_ended p.ask.flight book ≡ true
 unfolding has_ended
 ended_is book d p s h e k q =
     any_true (λ (x : Closing). is_ended x.end && is_job_of p.ask.flight x.job book) (endings book) d h
@@ -334,6 +340,37 @@ once_after book e f due flight number =
         let all : filter (is_request flight number) (openings (book ++ e ∷ [])) ≡ o ∷ [] = whole ∙ both_parts in
         subst (λ (l : List Opening). length l ≤ 1) (sym all) (omega arith)
 
+ends_flight : (end : Ending) → EndsFlight end → is_ended end ≡ true
+ends_flight (Ends.Conflict flight manager rule) h = absurd h
+ends_flight (Ends.Stale missing) h = absurd h
+ends_flight Ends.Cancelled h = absurd h
+ends_flight (Ends.Ended owed) h = refl
+
+by_end_wish : (book : List Entry) (job : ℕ) (end : Ending) (wish : Wish) → EndsWish book job end wish → wish ≡ End → is_ended end ≡ true
+by_end_wish book job end (Put to priority rounds proposals) h e = cc
+by_end_wish book job end End h e = ends_flight end h
+
+new_ends : (book : List Entry) (e : Entry) (d : Closing) (o : Opening) → IsOrderly (book ++ e ∷ []) → IsDue book e → Has (endings (e ∷ [])) d → Has (openings (book ++ e ∷ [])) o → o.job ≡ d.job → o.ask.wish ≡ End
+    → is_ended d.end ≡ true
+new_ends book (Done job end) d o v due (inl q) k f w =
+    let i = opening_has book job due.opening due.opened in
+    let g : o.job ≡ job = f ∙ ap (λ (z : Closing). z.job) (sym q) in
+    let same : due.opening ≡ o = old_opening book (Done job end) o job v due.opening i.0 i.1 k g in
+    let x : due.opening.ask.wish ≡ End = ap (λ (z : Opening). z.ask.wish) same ∙ w in
+    subst (λ (z : Closing). is_ended z.end ≡ true) q (by_end_wish book job end due.opening.ask.wish due.wish x)
+new_ends book (Done job end) d o v due (inr n) k f w = absurd n
+new_ends book _ d o v due h k f w = absurd h
+
+ends_after : (book : List Entry) (e : Entry) → IsOrderly book → IsOrderly (book ++ e ∷ []) → BookFacts book → IsDue book e → (d : Closing) (o : Opening) → Has (endings (book ++ e ∷ [])) d
+    → Has (openings (book ++ e ∷ [])) o → o.job ≡ d.job → o.ask.wish ≡ End → is_ended d.end ≡ true
+ends_after book e s v f due d o h k q w = elim (which_ending book (e ∷ []) d h) [
+  | inr new ↦ new_ends book e d o v due new k q w
+  | inl old ↦ (
+      let x = s.ended d old in
+      let same : x.0 ≡ o = old_opening book e o d.job v x.0 x.1 x.2 k q in
+      f.ends d x.0 old x.1 x.2 (ap (λ (z : Opening). z.ask.wish) same ∙ w))
+]
+
 facts_after : (book : List Entry) (e : Entry) → IsOrderly book → BookFacts book → MayFollow book e → BookFacts (book ++ e ∷ [])
 facts_after book e s f m =
     let v = orderly_after book e s m in
@@ -343,6 +380,7 @@ facts_after book e s f m =
       based_on = based_after book e f d;
       followed = followed_after book e s v f d;
       ended = ended_after book e s v f d;
+      ends = ends_after book e s v f d;
       once = once_after book e f d;
     }
 
@@ -353,6 +391,7 @@ facts_at_first =
       based_on = λ t ovn h q. absurd h;
       followed = λ h o k m q. absurd k;
       ended = λ d p o h i k q m n. absurd h;
+      ends = λ d o h k q w. absurd h;
       once = λ flight number. omega arith;
     }
 

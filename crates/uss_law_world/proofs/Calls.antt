@@ -1,5 +1,5 @@
 -- A call that the discovery service takes keeps what holds.
-use Rattle.std.proofs.Common.{ℕ, ◌<◌, ◌≡◌, ◌⊎◌, inl, inr, ◌==◌, ◌^◌, Bool, true, false, not, List, [], ◌∷◌, ◌++◌, refl, ap, sym, subst, ◌∙◌, Option, Some, None, unwrap_or, arith, length, ◌+◌, ◌≤◌}
+use Rattle.std.proofs.Common.{ℕ, ◌<◌, ◌≡◌, ◌⊎◌, inl, inr, ◌==◌, ◌^◌, ◌||◌, Bool, true, false, not, List, [], ◌∷◌, ◌++◌, refl, ap, sym, subst, ◌∙◌, Option, Some, None, unwrap_or, arith}
 use Rattle.std.specs.Prelude.{count_by}
 use Rattle.std.proofs.lemmas.List.{append-nil}
 use Rattle.uss_vol4.specs.Volume.{Volume4D}
@@ -27,7 +27,7 @@ use Rattle.uss_law_dss.specs.Effects.{Effect, Lands, Stays, TellsNoChange}
 use Rattle.uss_law_dss.specs.Effects.Effect.{lands, removes, makes_ticket, takes_ticket_out, stays}
 use Rattle.uss_law_dss.specs.Orderly.{IsOrderly, IsAsLanded, last_of}
 use Rattle.uss_law_dss.proofs.Lists.{has_push, has_left, has_last, has_filter, has_filtered, find_has, list_any_has, find_none}
-use Rattle.uss_law_dss.proofs.Tests.{same_number, equal_number, other_number, same_bytes, some_same, not_both}
+use Rattle.uss_law_dss.proofs.Tests.{either, neither, same_number, equal_number, other_number, same_bytes, some_same, not_both}
 use Rattle.uss_law_dss.proofs.History.{last_has}
 use Rattle.uss_law_dss.proofs.Placed.{put_there, put_keeps, put_others}
 use Rattle.uss_law_dss.proofs.Retired.{pushed_in, pushed_before}
@@ -42,13 +42,22 @@ use Rattle.uss_law_world.specs.Free.{AreSuppliers}
 use Rattle.uss_law_world.specs.Claims.{tag_in, rank_of, IsLandingOf, is_unsettling}
 use Rattle.uss_law_world.proofs.Books.{legal_facts}
 use Rattle.uss_law_world.proofs.Lookups.{same_ticket}
-use Rattle.uss_law_world.proofs.Facts.{LandingFrom, RecordedFrom, AreApart, IsTriedPut, NamesHeld, IsTicketOf, CallFrom, ShowsLanding, RetiredBy, RefusedShows, ReplyShows, IsRecorded, IsStanding, Facts}
-use Rattle.uss_law_world.proofs.Grows.{Grows, News, kept, recorded_from, names_held, reply_shows, entered_still}
+use Rattle.uss_law_world.proofs.Facts.{LandingFrom, RecordedFrom, AreApart, IsTriedPut, NamesHeld, IsEndOf, IsRemoveSent, IsToEnd, IsTicketOf, CallFrom, ShowsLanding, RetiredBy, RefusedShows, ReplyShows, IsRecorded, IsStanding, Facts}
+use Rattle.uss_law_world.proofs.Grows.{Grows, News, kept, recorded_from, names_held, end_of, reply_shows, entered_still}
 use Rattle.uss_law_world.proofs.Parts.{at, attempt_manager, attempt_ticket, base_tag}
 use Rattle.uss_law_world.proofs.Jobs.{by_opening, landing_of_recorded, settled}
 use Rattle.uss_law_world.proofs.Ranks.{rank_kept, rank_of_new, rank_of_last}
 use Rattle.uss_law_world.proofs.Clear.{not_forbidden, forbidden_sym}
 use Rattle.uss_law_world.proofs.Replies.{Tells, tells, remove_retired, ticket_remove_retired, ticket_in_use, put_exists, put_stale, one_recorded, IsOtherwise}
+
+or_first : (a : Bool) → (a || false) ≡ true → a ≡ true
+or_first true h = refl
+or_first false h = h
+
+-- the identifier that makes the difference
+pushed_is : (n m : ℕ) (ns : List ℕ) → has_number n ns ≡ false → has_number n (ns ++ m ∷ []) ≡ true → m ≡ n
+pushed_is n m [] e h = same_number m n (or_first (m == n) h)
+pushed_is n m (x ∷ ns) e h = let f = neither (x == n) (has_number n ns) e in pushed_is n m ns f.1 (either (x == n) (has_number n (ns ++ m ∷ [])) h f.0)
 
 -- what is to be shown of a call that the service takes, with this reply and this state after it
 pub record Taken (table : List ℕ) (owners : List Owner) (w : World) (k s : ℕ) (call : DssCall) (out : DssReply × Service) : Type 0 where
@@ -62,6 +71,7 @@ pub record Taken (table : List ℕ) (owners : List Owner) (w : World) (k s : ℕ
   pub recorded : (r : Recorded) → Has out.1.references r → Has w.service.references r ⊎ RecordedFrom (after_call w k s call out) r
   pub apart : (r q : Recorded) → Has out.1.references r → Has out.1.references q → (Has w.service.references r × Has w.service.references q) ⊎ AreApart table (after_call w k s call out) r q
   pub standing : (l : Landing) → Has out.1.landings l → IsStanding (after_call w k s call out) l
+  pub retired : (n : ℕ) → has_number n out.1.retired_flights ≡ true → (has_number n w.service.retired_flights ≡ true) ⊎ IsToEnd (after_call w k s call out) n
 
 -- the world grows by it
 record Keeps (w : World) (out : DssReply × Service) : Type 0 where
@@ -103,6 +113,7 @@ taken_news table owners w k s call out t j =
       recorded = t.recorded;
       apart = t.apart;
       standing = t.standing;
+      retired = t.retired;
       closed = λ i d h. inl h;
       sayings = λ x h. inl h;
     }
@@ -257,6 +268,7 @@ module _ (table : List ℕ) (owners : List Owner) (w : World) (names : AreSuppli
           recorded = λ r h. elim (which r h) [ inl e ↦ inr (subst (RecordedFrom v) e record_new) | inr old ↦ inl old ];
           apart = λ r q h i. apart r q (which r h) (which q i);
           standing = standing;
+          retired = λ n h. inl h;
         }
 
     pub lands_taken : Taken table owners w k s call out
@@ -270,7 +282,8 @@ module _ (table : List ℕ) (owners : List Owner) (w : World) (names : AreSuppli
       (flights : (n : ℕ) → has_number n w.service.retired_flights ≡ true → has_number n out.1.retired_flights ≡ true)
       (tickets : (n : ℕ) → has_number n w.service.retired_tickets ≡ true → has_number n out.1.retired_tickets ≡ true)
       (shows : ReplyShows (after_call w k s call out) s call.job call.ask out.0)
-      (standing : (l : Landing) → Has w.service.landings l → IsStanding (after_call w k s call out) l) where
+      (standing : (l : Landing) → Has w.service.landings l → IsStanding (after_call w k s call out) l)
+      (retired : (n : ℕ) → has_number n out.1.retired_flights ≡ true → (has_number n w.service.retired_flights ≡ true) ⊎ IsToEnd (after_call w k s call out) n) where
     pub quiet_taken : Taken table owners w k s call out
     quiet_taken =
         record {
@@ -284,6 +297,7 @@ module _ (table : List ℕ) (owners : List Owner) (w : World) (names : AreSuppli
           recorded = λ r h. inl (fewer r h);
           apart = λ r q h i. inl (fewer r h, fewer q i);
           standing = λ l h. standing l (subst (λ ls. Has ls l) same h);
+          retired = retired;
         }
 
   -- where the references stay, what stands still stands
@@ -294,7 +308,7 @@ module _ (table : List ℕ) (owners : List Owner) (w : World) (names : AreSuppli
     | inr r ↦ inr (record { recorded = r.recorded; there = stay r.recorded r.there; ovn_is = r.ovn_is })
   ]
 
-  module _ (flight : ℕ) (ovn : List ℕ) (r : Recorded) (is : call.ask ≡ Asks.Remove flight ovn) (found : recorded_of flight w.service ≡ Some r) (by_ovn : r.reference.ovn ≡ Some ovn) (names_it : NamesHeld w s ovn) where
+  module _ (flight : ℕ) (ovn : List ℕ) (r : Recorded) (is : call.ask ≡ Asks.Remove flight ovn) (found : recorded_of flight w.service ≡ Some r) (by_ovn : r.reference.ovn ≡ Some ovn) (sent : IsRemoveSent w s flight ovn) where
     abbrev gone : DssReply × Service
     gone = after_remove w.service (name_of s w) r
 
@@ -317,24 +331,34 @@ module _ (table : List ℕ) (owners : List Owner) (w : World) (names : AreSuppli
         go q true e =
             let same : q.recorded ≡ r = one_recorded w.service.references q.recorded r j.service.references_ascend q.there there.0 (same_number q.recorded.reference.flight r.reference.flight e) in
             let o : ovn ≡ l.ovn = some_same ovn l.ovn (sym by_ovn ∙ (ap (λ (z : Recorded). z.reference.ovn) (sym same) ∙ q.ovn_is)) in
-            inl (record { s = s; names = names_held grows_gone s l.ovn (subst (NamesHeld w s) o names_it) })
+            inl (record { s = s; names = names_held grows_gone s l.ovn (subst (NamesHeld w s) o sent.names) })
 
     shows_gone : RetiredBy (after_call w k s call gone) call.ask
     shows_gone =
         subst (RetiredBy (after_call w k s call gone)) (sym is)
         (subst (λ n. has_number n (w.service.retired_flights ++ r.reference.flight ∷ []) ≡ true) (same_number r.reference.flight flight there.1) (pushed_in r.reference.flight w.service.retired_flights))
 
+    retired_gone : (n : ℕ) → has_number n (w.service.retired_flights ++ r.reference.flight ∷ []) ≡ true → (has_number n w.service.retired_flights ≡ true) ⊎ IsToEnd (after_call w k s call gone) n
+    retired_gone n h = go (has_number n w.service.retired_flights) refl
+      where
+        go : (x : Bool) → has_number n w.service.retired_flights ≡ x → (has_number n w.service.retired_flights ≡ true) ⊎ IsToEnd (after_call w k s call gone) n
+        go true e = inl e
+        go false e =
+            let same : r.reference.flight ≡ n = pushed_is n r.reference.flight w.service.retired_flights e h in
+            let f : flight ≡ n = sym (same_number r.reference.flight flight there.1) ∙ same in
+            inr (record { s = s; ends = end_of grows_gone s n (subst (IsEndOf w s) f sent.ends) })
+
     pub remove_taken : IsOrderly gone.1 → Taken table owners w k s call gone
     remove_taken o =
         quiet_taken gone o refl (λ q h. has_filter (λ (z : Recorded). not (z.reference.flight == r.reference.flight)) w.service.references q h)
-        (λ n h. pushed_before n r.reference.flight w.service.retired_flights h) (λ n h. h) shows_gone standing_gone
+        (λ n h. pushed_before n r.reference.flight w.service.retired_flights h) (λ n h. h) shows_gone standing_gone retired_gone
 
   pub ticket_put_taken : (client : List ℕ) (ticket : ℕ) (area : Volume4D) (base : List ℕ) → IsOrderly (after_ticket_put w.service client ticket area base).1
       → Taken table owners w k s call (after_ticket_put w.service client ticket area base)
   ticket_put_taken client ticket area base o =
       let out = after_ticket_put w.service client ticket area base in
       let g = call_grows w k s call out (record { landings = λ l h. h; ranks = λ flight l h. refl; flights = λ n h. h; tickets = λ n h. h }) in
-      quiet_taken out o refl (λ q h. h) (λ n h. h) (λ n h. h) tt (still out g (λ r h. h))
+      quiet_taken out o refl (λ q h. h) (λ n h. h) (λ n h. h) tt (still out g (λ r h. h)) (λ n h. inl h)
 
   pub ticket_remove_taken : (id : ℕ) (t : Ticket) → call.ask ≡ Asks.TicketRemove id 1 → ticket_of id w.service ≡ Some t → IsOrderly (after_ticket_remove w.service t).1
       → Taken table owners w k s call (after_ticket_remove w.service t)
@@ -345,7 +369,7 @@ module _ (table : List ℕ) (owners : List Owner) (w : World) (names : AreSuppli
       let e : t.id ≡ id = same_number t.id id (find_has (λ (z : Ticket). z.id == id) w.service.tickets t found).1 in
       let shows : RetiredBy (after_call w k s call out) call.ask =
       subst (RetiredBy (after_call w k s call out)) (sym is) (subst (λ n. has_number n (w.service.retired_tickets ++ t.id ∷ []) ≡ true) e (pushed_in t.id w.service.retired_tickets)) in
-      quiet_taken out o refl (λ q h. h) (λ n h. h) tickets shows (still out g (λ r h. h))
+      quiet_taken out o refl (λ q h. h) (λ n h. h) tickets shows (still out g (λ r h. h)) (λ n h. inl h)
 
   -- a reference that is got shows a landing of its manager
   rank_here : (q : Recorded) → Has w.service.references q → (m : Landing) → last_of q.reference.flight w.service.landings ≡ Some m → q.reference.flight ≡ m.flight
@@ -455,11 +479,11 @@ module _ (table : List ℕ) (owners : List Owner) (w : World) (names : AreSuppli
       let g = call_grows w k s call out (record { landings = λ l h. subst (λ (ls : List Landing). Has ls l) (sym same) h; ranks = λ flight l h. ap (rank_of flight l.ovn) same; flights = keeps_flights; tickets = keeps_tickets }) in
       quiet_taken out o same (λ r h. subst (λ (z : Service). Has z.references r) st.same h) keeps_flights keeps_tickets
       (reply_shows g s call.job call.ask out.0 (stays_shows call.ask p out.0 t st.reply))
-      (still out g (λ r h. subst (λ (z : Service). Has z.references r) (sym st.same) h))
+      (still out g (λ r h. subst (λ (z : Service). Has z.references r) (sym st.same) h)) (λ n h. inl (subst (λ (z : Service). has_number n z.retired_flights ≡ true) st.same h))
 
 -- a call that was sent
 
-of_removes : (ask : DssAsk) (flight : ℕ) (ovn : List ℕ) (w : World) (s job : ℕ) → ask ≡ Asks.Remove flight ovn → CallFrom w s job ask → NamesHeld w s ovn
+of_removes : (ask : DssAsk) (flight : ℕ) (ovn : List ℕ) (w : World) (s job : ℕ) → ask ≡ Asks.Remove flight ovn → CallFrom w s job ask → IsRemoveSent w s flight ovn
 of_removes ask flight ovn w s job e p = subst (CallFrom w s job) e p
 
 pub is_tried : (ask : DssAsk) (flight : ℕ) (ovn : Option (List ℕ)) (extents : List Volume4D) (key : List (List ℕ)) (state : State) (base : List ℕ) (ticket : ℕ) (w : World) (s job : ℕ)

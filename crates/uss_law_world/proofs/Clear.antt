@@ -105,6 +105,10 @@ ovn_of_key (Some q) p h = ap Some (same_bytes q p h)
 made_ovn : {w : World} (p : OperationalIntent) → (m : IsMade w p) → Some m.ovn ≡ p.reference.ovn
 made_ovn p m = sym (ap (λ (z : OperationalIntent). z.reference.ovn) m.is)
 
+made_clear : (table : List ℕ) (x : Candidate) → {w : World} (p : OperationalIntent) → (m : IsMade w p) → (previous : Option OperationalIntent) → verdict table x p previous ≡ Clear
+    → verdict table x (recorded_as m.attempt m.ovn m.version) previous ≡ Clear
+made_clear table x p m previous h = subst (λ z. verdict table x z previous ≡ Clear) m.is h
+
 -- an attempt is clear against another, by what it changes
 pub record IsClearOf (table : List ℕ) (w : World) (a b : Attempted) : Type 0 where
   pub ovn : List ℕ
@@ -134,7 +138,7 @@ module _ (table : List ℕ) (owners : List Owner) (w : World) (names : AreSuppli
       let e : Some m.ovn ≡ Some o.0 = made_ovn c.pair m ∙ c.ovn_is in
       let n : q.reference.ovn ≡ Some m.ovn = ovn_of_key q.reference.ovn o.0 o.2 ∙ sym e in
       let same : f.attempt ≡ m.attempt = landed_as table owners w names j q h f m.s m.attempt m.ovn m.version m.found m.landing n in
-      let v : verdict table (candidate_of a) (recorded_as m.attempt m.ovn m.version) c.previous ≡ Clear = subst (λ z. verdict table (candidate_of a) z c.previous ≡ Clear) m.is c.clear in
+      let v = made_clear table (candidate_of a) c.pair m c.previous c.clear in
       record {
         ovn = m.ovn;
         version = m.version;

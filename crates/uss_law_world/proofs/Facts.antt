@@ -14,6 +14,7 @@ use Rattle.uss_intent.specs.declared.calls.DssRefusal.TheVariants as Refuses
 use Rattle.uss_event.specs.Pairs.{OperationalIntent}
 use Rattle.uss_event.specs.Verdicts.{verdict, is_strategic}
 use Rattle.uss_event.specs.declared.rules.Verdict.TheVariants.{Clear}
+use Rattle.uss_event.specs.declared.asks.Wish.TheVariants.{End}
 use Rattle.uss_event.specs.declared.entries.Owner.{Owner}
 use Rattle.uss_event.specs.declared.entries.Entry.{Entry}
 use Rattle.uss_event.specs.declared.calls.DssCall.{DssCall}
@@ -103,6 +104,17 @@ pub record NamesHeld (w : World) (s : ℕ) (ovn : List ℕ) : Type 0 where
   pub entered : Has (holdings (book_of s w)) holding
   pub ovn_is : holding.ovn ≡ ovn
 
+-- a Remove is of a job that is to end its flight, and names what the book recorded
+pub record IsEndOf (w : World) (s flight : ℕ) : Type 0 where
+  pub opening : Opening
+  pub opened : Has (openings (book_of s w)) opening
+  pub end : opening.ask.wish ≡ End
+  pub flight_is : flight ≡ flight_number s opening.ask.flight
+
+pub record IsRemoveSent (w : World) (s flight : ℕ) (ovn : List ℕ) : Type 0 where
+  pub names : NamesHeld w s ovn
+  pub ends : IsEndOf w s flight
+
 pub record IsTicketOf (w : World) (s job ticket : ℕ) : Type 0 where
   pub opening : Opening
   pub opened : Has (openings (book_of s w)) opening
@@ -111,7 +123,7 @@ pub record IsTicketOf (w : World) (s job ticket : ℕ) : Type 0 where
 
 abbrev pub CallFrom : World → ℕ → ℕ → DssAsk → Type 0
 CallFrom w s job (Asks.Put flight ovn extents key state base ticket) = IsTriedPut w s job (Asks.Put flight ovn extents key state base ticket)
-CallFrom w s job (Asks.Remove flight ovn) = NamesHeld w s ovn
+CallFrom w s job (Asks.Remove flight ovn) = IsRemoveSent w s flight ovn
 CallFrom w s job (Asks.TicketRemove ticket version) = IsTicketOf w s job ticket
 CallFrom w s job _ = Unit {0}
 
@@ -159,6 +171,11 @@ pub record IsRecorded (w : World) (l : Landing) : Type 0 where
 
 abbrev pub IsStanding : World → Landing → Type 0
 IsStanding w l = IsEntered w l ⊎ IsRecorded w l
+
+-- a retired flight is one that a job is to end
+pub record IsToEnd (w : World) (flight : ℕ) : Type 0 where
+  pub s : ℕ
+  pub ends : IsEndOf w s flight
 
 -- the flight of a job that ended it is retired
 pub record IsFlightRetired (w : World) (s job : ℕ) : Type 0 where
@@ -216,5 +233,6 @@ pub record Facts (table : List ℕ) (owners : List Owner) (w : World) : Type 0 w
   pub recorded : (r : Recorded) → Has w.service.references r → RecordedFrom w r
   pub apart : (r q : Recorded) → Has w.service.references r → Has w.service.references q → AreApart table w r q
   pub standing : (l : Landing) → Has w.service.landings l → IsStanding w l
+  pub retired : (n : ℕ) → has_number n w.service.retired_flights ≡ true → IsToEnd w n
   pub closed : (s : ℕ) (d : Closing) → Has (endings (book_of s w)) d → EndingShows w s d
   pub sayings : (x : Saying) → Has w.sayings x → SaidIsKept (book_of x.supplier w) x.supplier x.flight x.number x.said

@@ -31,7 +31,7 @@ use Rattle.uss_law_world.specs.World.{Supplier, Saying, World, supplier_in, book
 use Rattle.uss_law_world.specs.World.Post.{Called, Replied, Asked, Answered}
 use Rattle.uss_law_world.specs.Claims.{tag_in, rank_of, IsLandingOf}
 use Rattle.uss_law_world.proofs.Books.{holding_stays, ending_stays}
-use Rattle.uss_law_world.proofs.Facts.{IsSound, HasLanding, IsMade, LandingFrom, RecordedFrom, AreApart, NamesHeld, CallFrom, ShowsLanding, RetiredBy, ReplyShows, IsClearOvn, IsEntered, IsStanding, EndingShows, SaidIsKept, Facts}
+use Rattle.uss_law_world.proofs.Facts.{IsSound, HasLanding, IsMade, LandingFrom, RecordedFrom, AreApart, NamesHeld, IsEndOf, IsToEnd, CallFrom, ShowsLanding, RetiredBy, ReplyShows, IsClearOvn, IsEntered, IsStanding, EndingShows, SaidIsKept, Facts}
 
 -- books and landings grow, and what is retired stays so; no attempt is made for a job that has ended
 pub record Grows (w v : World) : Type 0 where
@@ -115,10 +115,16 @@ module _ {w v : World} (g : Grows w v) where
   pub names_held : (s : ℕ) (o : List ℕ) → NamesHeld w s o → NamesHeld v s o
   names_held s o h = record { holding = h.holding; entered = holding s h.holding h.entered; ovn_is = h.ovn_is }
 
+  pub end_of : (s flight : ℕ) → IsEndOf w s flight → IsEndOf v s flight
+  end_of s flight h = record { opening = h.opening; opened = opening s h.opening h.opened; end = h.end; flight_is = h.flight_is }
+
+  pub to_end : (flight : ℕ) → IsToEnd w flight → IsToEnd v flight
+  to_end flight h = record { s = h.s; ends = end_of h.s flight h.ends }
+
   pub call_from : (s job : ℕ) (ask : DssAsk) → CallFrom w s job ask → CallFrom v s job ask
   call_from s job (Asks.Put flight ovn extents key state base ticket) h =
       record { attempt = h.attempt; found = attempt s h.attempt.tag h.attempt h.found; its_job = h.its_job; is = h.is }
-  call_from s job (Asks.Remove flight ovn) h = names_held s ovn h
+  call_from s job (Asks.Remove flight ovn) h = record { names = names_held s ovn h.names; ends = end_of s flight h.ends }
   call_from s job (Asks.TicketRemove ticket version) h = record { opening = h.opening; opened = opening s h.opening h.opened; job_is = h.job_is; ticket_is = h.ticket_is }
   call_from s job _ h = tt
 
@@ -213,6 +219,7 @@ pub record News (table : List ℕ) (owners : List Owner) (w v : World) : Type 0 
   pub recorded : (r : Recorded) → Has v.service.references r → Has w.service.references r ⊎ RecordedFrom v r
   pub apart : (r q : Recorded) → Has v.service.references r → Has v.service.references q → (Has w.service.references r × Has w.service.references q) ⊎ AreApart table v r q
   pub standing : (l : Landing) → Has v.service.landings l → IsStanding v l
+  pub retired : (n : ℕ) → has_number n v.service.retired_flights ≡ true → (has_number n w.service.retired_flights ≡ true) ⊎ IsToEnd v n
   pub closed : (s : ℕ) (d : Closing) → Has (endings (book_of s v)) d → Has (endings (book_of s w)) d ⊎ EndingShows v s d
   pub sayings : (x : Saying) → Has v.sayings x → Has w.sayings x ⊎ SaidIsKept (book_of x.supplier v) x.supplier x.flight x.number x.said
 
@@ -233,6 +240,7 @@ kept table owners w v n j =
       recorded = λ r h. elim (n.recorded r h) [ inl old ↦ recorded_from g r (j.recorded r old) | inr new ↦ new ];
       apart = λ r q h i. elim (n.apart r q h i) [ inl old ↦ are_apart g table r q (j.apart r q old.0 old.1) | inr new ↦ new ];
       standing = n.standing;
+      retired = λ m h. elim (n.retired m h) [ inl old ↦ to_end g m (j.retired m old) | inr new ↦ new ];
       closed = λ s d h. elim (n.closed s d h) [ inl old ↦ ending_shows g s d old (j.closed s d old) | inr new ↦ new ];
       sayings = λ x h. elim (n.sayings x h) [ inl old ↦ saying_kept g x (j.sayings x old) | inr new ↦ new ];
     }

@@ -5,6 +5,7 @@ use Rattle.uss_intent.specs.declared.records.Recorded.{Recorded}
 use Rattle.uss_intent.specs.declared.records.Reference.{Reference}
 use Rattle.uss_intent.specs.declared.records.Landing.{Landing}
 use Rattle.uss_intent.specs.declared.records.Subscriber.{Subscriber}
+use Rattle.uss_intent.specs.declared.calls.DssAsk.TheVariants as Asks
 use Rattle.uss_intent.specs.declared.calls.DssReply.{DssReply}
 use Rattle.uss_intent.specs.declared.calls.DssReply.TheVariants as Replies
 use Rattle.uss_event.specs.Pairs.{OperationalIntent}
@@ -12,37 +13,40 @@ use Rattle.uss_event.specs.declared.entries.Owner.{Owner}
 use Rattle.uss_event.specs.declared.entries.Entry.{Entry}
 use Rattle.uss_event.specs.declared.calls.DssCall.{DssCall}
 use Rattle.uss_law_dss.specs.Lists.{Has}
-use Rattle.uss_law_dss.specs.Service.{Service, recorded_of, ovn_of}
+use Rattle.uss_law_dss.specs.Service.{Service, recorded_of, ovn_of, has_number}
 use Rattle.uss_law_dss.specs.Step.{after_put, service_step}
 use Rattle.uss_law_dss.specs.Effects.{Effect, Lands, TellsNoChange}
 use Rattle.uss_law_dss.specs.Effects.Effect.{lands, removes, makes_ticket, takes_ticket_out, stays}
-use Rattle.uss_law_dss.specs.Orderly.{AreNumbered}
+use Rattle.uss_law_dss.specs.Orderly.{AreNumbered, IsAsLanded}
 use Rattle.uss_law_dss.proofs.Lists.{has_filter, has_filtered, has_passed, find_has}
-use Rattle.uss_law_dss.proofs.Tests.{both, and_true, same_bytes, equal_bytes, same_number, equal_number, not_both}
-use Rattle.uss_law_dss.proofs.History.{has_numbered}
+use Rattle.uss_law_dss.proofs.Tests.{both, and_true, same_bytes, equal_bytes, same_number, equal_number, not_both, some_same}
+use Rattle.uss_law_dss.proofs.History.{has_numbered, last_has}
 use Rattle.uss_law_dss.proofs.Ovns.{ovns_differ}
 use Rattle.uss_law_dss.proofs.EachEffect.{effect}
-use Rattle.uss_law_dss.proofs.EachOrderly.{step_orderly}
+use Rattle.uss_law_dss.proofs.EachOrderly.{step_orderly, one_landing}
 use Rattle.uss_law_book.specs.Lists.{Trial, openings, trials}
 use Rattle.uss_law_book.specs.Readings.{is_closed, owns, holding, holdings_of, has_ended}
 use Rattle.uss_law_book.specs.Attempts.{Attempted, attempt_of, extents_of, put_of, recorded_as, held}
-use Rattle.uss_law_book.proofs.Finds.{none_filtered}
-use Rattle.uss_law_book.proofs.Kept.{open_parts, held_closes}
+use Rattle.uss_law_book.proofs.Finds.{none_filtered, find_found}
+use Rattle.uss_law_book.proofs.Kept.{open_parts, held_closes, opening_has}
 use Rattle.uss_law_book.proofs.EachOrderly.{owned, legal_is_orderly}
 use Rattle.uss_law_dss.proofs.Lists.{any_true}
+use Rattle.uss_intent.specs.Identifiers.{flight_number}
+use Rattle.uss_law_world.proofs.Replies.{one_recorded}
 use Rattle.uss_law_world.specs.World.{Supplier, World, supplier_in, book_in, book_of, name_of, start}
 use Rattle.uss_law_world.specs.World.Post.{Called}
 use Rattle.uss_law_world.specs.Moves.{Move, run}
 use Rattle.uss_law_world.specs.Free.{AreSuppliers, IsFree}
-use Rattle.uss_law_world.specs.Claims.{tag_in, EachIsIntended, IsMade, EachPairIsMade, Forbidden, NoneForbidden, IsClearAtLanding, LandingsAreClear, IsLandingOf, landings_of, is_request, EachAtMostOnce, FinalAnswersAreTrue, RefusalsAreSettled, OpenLandingsStay}
+use Rattle.uss_law_world.specs.Claims.{tag_in, EachIsIntended, IsMade, EachPairIsMade, Forbidden, NoneForbidden, IsClearAtLanding, LandingsAreClear, IsLandingOf, landings_of, is_request, EachAtMostOnce, FinalAnswersAreTrue, RefusalsAreSettled, OpenLandingsStay, OpenLandingsAreGot, BooksAgree}
 use Rattle.uss_law_world.proofs.Books.{legal_facts}
 use Rattle.uss_law_world.proofs.Facts.{Facts}
 use Rattle.uss_law_world.proofs.Facts as Made
 use Rattle.uss_law_world.proofs.Acts.{held_made}
 use Rattle.uss_law_world.proofs.Parts.{stands, attempt_manager, one_attempt, intent_is, intended, is_record, base_tag}
 use Rattle.uss_law_world.proofs.Clear.{stands_clear}
-use Rattle.uss_law_world.proofs.Jobs.{one_of_job, held_or_recorded}
+use Rattle.uss_law_world.proofs.Jobs.{one_of_job, held_or_recorded, flight_is}
 use Rattle.uss_law_world.proofs.Calls.{is_tried, put_out, keyed, before, fields}
+use Rattle.uss_law_world.proofs.Between.{books_agree}
 use Rattle.uss_law_world.proofs.Runs.{reached_facts, run_append}
 use Rattle.uss_law_world.proofs.Answers.{run_says, said_is_true}
 
@@ -229,6 +233,36 @@ module _ (table : List ℕ) (owners : List Owner) (w : World) (names : AreSuppli
         | inr r ↦ (r.recorded, r.there, r.ovn_is)
       ]
 
+  -- and is got
+  pub open_landings_are_got : OpenLandingsAreGot w
+  open_landings_are_got s job o l open_ opened a =
+      let k = open_landings_stay s job l open_ a in
+      let r = k.0 in
+      let m = j.service.landed r k.1 in
+      let i : IsAsLanded m.0 r.reference = m.2 in
+      let same : m.0 ≡ l = one_landing w.service j.service m.0 l (last_has r.reference.flight w.service.landings m.0 m.1) a.there (some_same m.0.ovn l.ovn (sym i.ovn ∙ k.2)) in
+      let h = opening_has (book_of s w) job o opened in
+      let f : r.reference.flight ≡ flight_number s o.ask.flight =
+      i.flight ∙ (ap (λ (z : Landing). z.flight) same ∙ flight_is table owners w names j s a.trial l o a.tried a.there a.manager a.tag h.0 (h.1 ∙ sym a.job_is)) in
+      let c : r.reference.manager ≡ name_of s w = i.manager ∙ (ap (λ (z : Landing). z.manager) same ∙ a.manager) in
+      record {
+        reference = r.reference;
+        reply = got (flight_number s o.ask.flight) r k.1 f c;
+        ovn = k.2;
+        tag = sym i.tag ∙ ap (λ (z : Landing). z.tag) same;
+      }
+    where
+      got : (flight : ℕ) (r : Recorded) → Has w.service.references r → r.reference.flight ≡ flight → r.reference.manager ≡ name_of s w
+          → (service_step w.service (name_of s w) (Asks.Get flight)).0 ≡ Replies.Got r.reference
+      got flight r h e c =
+          let x = find_found (λ (z : Recorded). z.reference.flight == flight) w.service.references r h (equal_number r.reference.flight flight e) in
+          let y = find_has (λ (z : Recorded). z.reference.flight == flight) w.service.references x.0 x.1 in
+          let one : x.0 ≡ r = one_recorded w.service.references x.0 r j.service.references_ascend y.0 h (same_number x.0.reference.flight flight y.1 ∙ sym e) in
+          let rec : recorded_of flight w.service ≡ Some r = x.1 ∙ ap Some one in
+          let kept : has_number flight w.service.retired_flights ≡ false = subst (λ n. has_number n w.service.retired_flights ≡ false) e (j.service.flights_stay_retired r h) in
+          let own : same_text r.reference.manager (name_of s w) ≡ true = equal_bytes r.reference.manager (name_of s w) c in
+          rw (rec, kept, own) refl
+
 -- the claims of every free list of moves
 module _ (table : List ℕ) (owners : List Owner) (names : AreSuppliers table owners) (ms : List Move) (free : IsFree (start owners) ms) where
   abbrev w : World
@@ -254,6 +288,12 @@ module _ (table : List ℕ) (owners : List Owner) (names : AreSuppliers table ow
 
   pub stay_after : OpenLandingsStay w
   stay_after = open_landings_stay table owners w names (reached_facts table owners names ms free)
+
+  pub got_after : OpenLandingsAreGot w
+  got_after = open_landings_are_got table owners w names (reached_facts table owners names ms free)
+
+  pub agree_after : BooksAgree w
+  agree_after = books_agree table owners w names (reached_facts table owners names ms free)
 
   pub true_now : FinalAnswersAreTrue w w
   true_now = said_is_true table owners w names (reached_facts table owners names ms free)

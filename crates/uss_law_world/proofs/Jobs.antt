@@ -177,7 +177,7 @@ module _ (table : List ℕ) (owners : List Owner) (w : World) (names : AreSuppli
       )
 
   -- the holding's landing is of its job
-  holding_landing : (s : ℕ) (h : Holding) → Has (holdings (book_of s w)) h → (l : Landing) × (l.ovn ≡ h.ovn) × IsLandingOf w s h.job l
+  pub holding_landing : (s : ℕ) (h : Holding) → Has (holdings (book_of s w)) h → (l : Landing) × (l.ovn ≡ h.ovn) × IsLandingOf w s h.job l
   holding_landing s h k =
       let st = by_holding s h k in
       let o = legal_is_orderly (book_of s w) st.1.legal in

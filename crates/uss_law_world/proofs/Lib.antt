@@ -16,3 +16,5 @@ pub mod Headline
 pub mod Second
 pub mod WorkedRuns
 pub mod Product
+pub mod Between
+pub mod EachStep

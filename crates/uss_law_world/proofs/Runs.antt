@@ -77,6 +77,7 @@ same_facts table owners w v q j = kept table owners w v news j
           recorded = λ r h. inl (subst (λ (z : Service). Has z.references r) q.service h);
           apart = λ r z h i. inl (subst (λ (y : Service). Has y.references r) q.service h, subst (λ (y : Service). Has y.references z) q.service i);
           standing = standing;
+          retired = λ n h. inl (subst (λ (z : Service). has_number n z.retired_flights ≡ true) q.service h);
           closed = λ k d h. inl (subst (λ b. Has (endings b) d) (q.books k) h);
           sayings = λ x h. inl (subst (λ z. Has z x) q.sayings h);
         }

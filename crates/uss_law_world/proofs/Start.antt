@@ -105,6 +105,7 @@ module _ (table : List ℕ) (owners : List Owner) (names : AreSuppliers table ow
         recorded = λ r h. absurd h;
         apart = λ r q h i. absurd h;
         standing = λ l h. absurd h;
+        retired = λ n h. cc;
         closed = λ s d. at_new s (λ x. Has (endings (book_in x)) d → EndingShows w s d) (λ h. absurd h) (λ o h. absurd h);
         sayings = λ x h. absurd h;
       }

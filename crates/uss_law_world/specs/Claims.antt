@@ -1,8 +1,9 @@
 -- What is claimed of the world after every free list of moves. Strategic conflict detection is after ASTM F3548-21; the table of rules,
 -- the exception for an Activated intent and the answers are this project's own.
-use Rattle.std.specs.Prelude.{ℕ, ◌≤◌, ◌<◌, ◌≡◌, ◌≢◌, Bool, true, false, ◌&&◌, ◌==◌, List, filter, length, Option, Some, None, unwrap_or, count_by, if◌then◌else◌, ◌+◌, [], ◌∷◌}
+use Rattle.std.specs.Prelude.{ℕ, ◌≤◌, ◌<◌, ◌≡◌, ◌≢◌, Bool, true, false, ◌&&◌, ◌==◌, List, filter, length, Option, Some, None, unwrap_or, count_by, if◌then◌else◌, ◌+◌, ◌^◌, [], ◌∷◌}
 use Rattle.uss_vol4.specs.Volume.{ListsShare}
 use Rattle.uss_vol4.specs.Bounding.{bounding_box}
+use Rattle.uss_intent.specs.Identifiers.{flight_number}
 use Rattle.uss_intent.specs.Tags.{tag_of}
 use Rattle.uss_intent.specs.Same.{same_text}
 use Rattle.uss_intent.specs.declared.records.Recorded.{Recorded}
@@ -16,6 +17,7 @@ use Rattle.uss_intent.specs.declared.calls.DssReply.TheVariants as Replies
 use Rattle.uss_intent.specs.declared.calls.DssRefusal.{DssRefusal}
 use Rattle.uss_intent.specs.declared.calls.DssRefusal.TheVariants as Refuses
 use Rattle.uss_event.specs.Pairs.{OperationalIntent}
+use Rattle.uss_event.specs.Plans as Plans
 use Rattle.uss_event.specs.Rules.{is_listed}
 use Rattle.uss_event.specs.Verdicts.{is_strategic}
 use Rattle.uss_event.specs.declared.calls.DssCall.{DssCall}
@@ -31,7 +33,7 @@ use Rattle.uss_law_dss.specs.Lists.{Has}
 use Rattle.uss_law_dss.specs.Service.{has_number, recorded_of}
 use Rattle.uss_law_dss.specs.Step.{service_step}
 use Rattle.uss_law_book.specs.Lists.{Opening, Trial, openings, trials}
-use Rattle.uss_law_book.specs.Readings.{is_open, owns}
+use Rattle.uss_law_book.specs.Readings.{is_open, owns, opening_of, open_job_of, has_ended}
 use Rattle.uss_law_book.specs.Attempts.{Attempted, attempt_of, extents_of, recorded_as, held}
 use Rattle.uss_law_duty.specs.Heard.News.{Heard}
 use Rattle.uss_law_duty.specs.Answers.{is_final, job_of_request}
@@ -178,22 +180,24 @@ pub record EachAtMostOnce (w : World) : Type 0 where
   pub openings : (s flight number : ℕ) → length (filter (is_request flight number) (openings (book_of s w))) ≤ 1
   pub landings : (s job : ℕ) → length (landings_of s job w) ≤ 1
 
--- an answer that says what was recorded is true where a landing of the job is that, by an attempt of this alternative
-pub record IsRecordedSo (w : World) (s job flight tag alternative : ℕ) (ovn : List ℕ) : Type 0 where
+-- an answer that says what was recorded is true where a landing of the job is that, by an attempt of this alternative; its version counts
+-- the flight's landings up to it
+pub record IsRecordedSo (w : World) (s job flight tag alternative : ℕ) (ovn : List ℕ) (version : ℕ) : Type 0 where
   pub landing : Landing
   pub of_job : IsLandingOf w s job landing
   pub flight_is : landing.flight ≡ flight
   pub tag_is : landing.tag ≡ tag
   pub ovn_is : landing.ovn ≡ ovn
   pub alternative_is : of_job.trial.alternative ≡ alternative
+  pub version_is : rank_of landing.flight landing.ovn w.service.landings ≡ version
 
 abbrev pub NothingLanded : World → ℕ → ℕ → Type 0
 NothingLanded w s job = (l : Landing) → IsLandingOf w s job l → ⊥
 
 -- the final answer is true now, of a job of a supplier
 abbrev pub IsTrueAnswer : World → ℕ → ℕ → Answer → Type 0
-IsTrueAnswer w s job (Answers.Planned flight tag alternative ovn version) = IsRecordedSo w s job flight tag alternative ovn
-IsTrueAnswer w s job (Answers.Changed flight tag alternative ovn version) = IsRecordedSo w s job flight tag alternative ovn
+IsTrueAnswer w s job (Answers.Planned flight tag alternative ovn version) = IsRecordedSo w s job flight tag alternative ovn version
+IsTrueAnswer w s job (Answers.Changed flight tag alternative ovn version) = IsRecordedSo w s job flight tag alternative ovn version
 IsTrueAnswer w s job (Answers.Ended flight) = has_number flight w.service.retired_flights ≡ true
 IsTrueAnswer w s job (Answers.Conflict flight manager rule) = NothingLanded w s job
 IsTrueAnswer w s job (Answers.Stale missing) = NothingLanded w s job
@@ -243,3 +247,24 @@ RefusalsAreSettled w =
 abbrev pub OpenLandingsStay : World → Type 0
 OpenLandingsStay w =
     (s job : ℕ) (l : Landing) → is_open job (book_of s w) ≡ true → IsLandingOf w s job l → (r : Recorded) × Has w.service.references r × (r.reference.ovn ≡ Some l.ovn)
+
+-- and the discovery service gives it to its supplier, who asks for the flight
+pub record IsGot (w : World) (s flight : ℕ) (l : Landing) : Type 0 where
+  pub reference : Reference
+  pub reply : (service_step w.service (name_of s w) (Asks.Get flight)).0 ≡ Replies.Got reference
+  pub ovn : reference.ovn ≡ Some l.ovn
+  pub tag : tag_in reference ≡ l.tag
+
+abbrev pub OpenLandingsAreGot : World → Type 0
+OpenLandingsAreGot w =
+    (s job : ℕ) (o : Opening) (l : Landing) → is_open job (book_of s w) ≡ true → opening_of job (book_of s w) ≡ Some o → IsLandingOf w s job l → IsGot w s (flight_number s o.ask.flight) l
+
+-- of a flight, what is recorded is what its supplier holds: the same reference over the same extents, or nothing
+pub record HoldsWhatIsRecorded (w : World) (s flight : ℕ) : Type 0 where
+  pub recorded : (p : OperationalIntent) → held flight (book_of s w) ≡ Some p → (r : Recorded) × Has w.service.references r × (r.reference ≡ p.reference) × (r.extents ≡ Plans.extents_of p.details)
+  pub absent : held flight (book_of s w) ≡ None → (r : Recorded) → Has w.service.references r → r.reference.flight ≡ flight_number s flight → ⊥
+
+-- so it is while the flight has no open job and hasn't ended; and where it has ended, it is retired
+pub record BooksAgree (w : World) : Type 0 where
+  pub between_jobs : (s flight : ℕ) → flight < 2 ^ 64 → open_job_of flight (book_of s w) ≡ None → has_ended flight (book_of s w) ≡ false → HoldsWhatIsRecorded w s flight
+  pub ended : (s flight : ℕ) → has_ended flight (book_of s w) ≡ true → has_number (flight_number s flight) w.service.retired_flights ≡ true

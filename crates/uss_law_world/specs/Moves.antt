@@ -15,6 +15,8 @@ use Rattle.uss_event.specs.declared.events.Said.{Said}
 use Rattle.uss_event.specs.declared.events.Said.TheVariants as Says
 use Rattle.uss_event.specs.declared.events.Event.{Event}
 use Rattle.uss_event.specs.declared.events.Event.TheVariants as Comes
+use Rattle.uss_event.specs.declared.steps.Step.{Step}
+use Rattle.uss_event.specs.declared.steps.Step.TheVariants as Steps
 use Rattle.uss_event.specs.declared.steps.Stopped.{Stopped}
 use Rattle.uss_event.specs.declared.steps.Stopped.TheVariants as Turns
 use Rattle.uss_law_dss.specs.Service.{Service}
@@ -50,6 +52,23 @@ pub data Move : Type 0 where
   Restart : (supplier : ℕ) → Move
   -- a supplier stops within a step and restarts: before its entry is kept, or after that, when so many of its messages have left
   Stop : (kept : Bool) (sent : ℕ) (step : Stopped) (choice : Choice) → Move
+
+-- the step of a script that a move is, without what the supplier chose
+abbrev pub taken_step : Stopped → Step
+taken_step (Turns.Ask s ask) = Steps.Ask s ask
+taken_step (Turns.Cancel s flight number) = Steps.Cancel s flight number
+taken_step (Turns.Position s ask) = Steps.Position s ask
+taken_step (Turns.Sweep s skip) = Steps.Sweep s skip
+taken_step (Turns.Deliver k) = Steps.Deliver k
+
+abbrev pub step_of : Move → Step
+step_of (Now moment) = Steps.Now moment
+step_of (Takes step c) = taken_step step
+step_of (Lose k) = Steps.Lose k
+step_of (Drain cs) = Steps.Drain (length cs)
+step_of (Fault k c) = Steps.Fault k
+step_of (Restart s) = Steps.Restart s
+step_of (Stop kept sent step c) = Steps.Stop kept sent step
 
 -- a moment within the range of instants: 2000-01-01 to 2200-01-01
 unfoldable pub clamped : ℤ → ℤ

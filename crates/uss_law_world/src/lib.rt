@@ -2,10 +2,18 @@
 //! that runs.
 //!
 //! `specs/World.antt` has the world, `specs/Moves.antt` what may happen in it and what comes of that, `specs/Free.antt` which lists of
-//! moves are free, and `specs/Claims.antt` what is claimed. In a free list of moves each step of a supplier is any that its duties
-//! allow (`MayStep` of `uss_law_duty`), and each step of the discovery service is that of its definition (`service_step` of
-//! `uss_law_dss`); messages are lost, come late or come again, and suppliers stop and restart at any moment. The functions below do
-//! nothing: their contracts carry the laws.
+//! moves are free, `specs/Claims.antt` what is claimed, and `specs/Worked.antt` three worked runs. In a free list of moves each step of a
+//! supplier is any that its duties allow (`MayStep` of `uss_law_duty`), and each step of the discovery service is that of its definition
+//! (`service_step` of `uss_law_dss`); messages are lost, come late or come again, and suppliers stop and restart at any moment. The
+//! functions below do nothing: their contracts carry the laws. `proofs/Facts.antt` has what is kept by every move; the proofs of the
+//! laws stand on nothing else.
+//!
+//! Which clauses of `MayStep` the laws need: all of them `legal` and `records`; `keys`, `hears`, `pair`, `notes` and `held` that intents
+//! stay apart, that landings are clear and that pairs are made; `held`, `removals` and `final` that final answers are true; `held`,
+//! `removals` and, for whose ticket it is, `ticket_removals` that refusals are settled and that an open job's landing stays recorded;
+//! `held` and `removals` that books agree with the service. No law here needs `tickets`, `ticket_calls`, `cause` and `goes_on`. Nor
+//! does any need that a Put is of an open job and a Remove of an open one, that a Held comes of a fitting reply to the very call, or
+//! when a ticket may be taken out: those duties keep a supplier from getting in its own way.
 #![tactic(auto)]
 
 ghost use Rattle.std.specs.Prelude.{◌≡◌, ◌≤◌, ◌++◌, [], ◌∷◌, List, ℕ};
@@ -16,26 +24,27 @@ ghost use Rattle.uss_event.specs.Rules.{IsTable};
 ghost use Rattle.uss_law_world.specs.Suppliers.{numbered_owners};
 ghost use Rattle.uss_law_duty.specs.Worked.{owner, planned};
 ghost use Rattle.uss_law_world.specs.World.{start};
-ghost use Rattle.uss_law_world.specs.Moves.{Move, run};
+ghost use Rattle.uss_law_world.specs.Moves.{Move, step_of, run};
+ghost use Rattle.uss_event.specs.declared.steps.Step.{Step};
 ghost use Rattle.uss_law_world.specs.Free.{AreSuppliers, IsFree};
 ghost use Rattle.uss_law_world.specs.Worked.{said_in, replies_in, saying, found_again, found_again_replies, cancelled_early, cancelled_early_replies, second, both_put, both_put_replies};
-ghost use Rattle.uss_law_world.specs.Claims.{EachIsIntended, NoneForbidden, EachAtMostOnce, FinalAnswersAreTrue, LandingsAreClear, RefusalsAreSettled, EachPairIsMade, OpenLandingsStay};
+ghost use Rattle.uss_law_world.specs.Claims.{EachIsIntended, NoneForbidden, EachAtMostOnce, FinalAnswersAreTrue, LandingsAreClear, RefusalsAreSettled, EachPairIsMade, OpenLandingsStay, OpenLandingsAreGot, BooksAgree};
 
-/// The headline: after every free list of moves no two recorded intents, both Accepted or Activated, of one priority at which conflict
-/// is forbidden, share a point of airspace and time; each recorded reference has exactly one intent, with its flight, state, extents,
-/// base URL and ticket; each request opened at most one job, and a job has at most one landing; and each final answer is true, now
-/// and after every further list of moves: what it calls planned was recorded so, and what it calls refused never is.
+/// The headline, first part: after every free list of moves no two recorded intents, both Accepted or Activated, of one priority at which
+/// conflict is forbidden, share a point of airspace and time; and each recorded reference has exactly one intent, with its flight, state,
+/// extents, base URL and ticket.
 pub fn intents_stay_apart()
     ensures intended { (table : List ℕ) (owners : List Owner) (moves : List Move) → AreSuppliers table owners → IsFree (start owners) moves → EachIsIntended (run (start owners) moves) }
     ensures apart { (table : List ℕ) (owners : List Owner) (moves : List Move) → AreSuppliers table owners → IsFree (start owners) moves → NoneForbidden table (run (start owners) moves) }
 {}
 
-/// Each request opened at most one job, and a job has at most one landing.
+/// The headline, second part: each request opened at most one job, and a job has at most one landing.
 pub fn requests_are_recorded_at_most_once()
     ensures { (table : List ℕ) (owners : List Owner) (moves : List Move) → AreSuppliers table owners → IsFree (start owners) moves → EachAtMostOnce (run (start owners) moves) }
 {}
 
-/// Each final answer is true when it was said, and after every further list of moves.
+/// The headline, third part: each final answer is true when it was said, and after every further list of moves. What it calls planned or
+/// changed was recorded so, what it calls ended is retired, and what it calls refused never is recorded.
 pub fn final_answers_are_true()
     ensures now { (table : List ℕ) (owners : List Owner) (moves : List Move) → AreSuppliers table owners → IsFree (start owners) moves
         → FinalAnswersAreTrue (run (start owners) moves) (run (start owners) moves) }
@@ -54,9 +63,16 @@ pub fn refusals_of_an_open_job_are_settled()
     ensures { (table : List ℕ) (owners : List Owner) (moves : List Move) → AreSuppliers table owners → IsFree (start owners) moves → RefusalsAreSettled (run (start owners) moves) }
 {}
 
-/// While a job is open, its landing stays recorded.
+/// While a job is open, its landing stays recorded, and the supplier that asks the discovery service for the flight gets it.
 pub fn an_open_jobs_landing_stays_recorded()
-    ensures { (table : List ℕ) (owners : List Owner) (moves : List Move) → AreSuppliers table owners → IsFree (start owners) moves → OpenLandingsStay (run (start owners) moves) }
+    ensures recorded { (table : List ℕ) (owners : List Owner) (moves : List Move) → AreSuppliers table owners → IsFree (start owners) moves → OpenLandingsStay (run (start owners) moves) }
+    ensures got { (table : List ℕ) (owners : List Owner) (moves : List Move) → AreSuppliers table owners → IsFree (start owners) moves → OpenLandingsAreGot (run (start owners) moves) }
+{}
+
+/// While a flight has no open job and hasn't ended, what its supplier holds of it is what is recorded: the same reference over the same
+/// extents, or nothing. A flight that has ended is retired.
+pub fn books_agree_with_the_service()
+    ensures { (table : List ℕ) (owners : List Owner) (moves : List Move) → AreSuppliers table owners → IsFree (start owners) moves → BooksAgree (run (start owners) moves) }
 {}
 
 /// Each pair that a supplier holds, heard, serves or notes is an attempt of some supplier as it landed.
@@ -89,4 +105,9 @@ pub fn one_of_two_puts_lands()
 /// proved of suppliers is true of them.
 pub fn numbered_suppliers_have_their_own_names()
     ensures { (table : List ℕ) (n : ℕ) → n ≤ 64 → IsTable table → AreSuppliers table (numbered_owners n table) }
+{}
+
+/// Each step of a script is a move.
+pub fn each_step_of_a_script_is_a_move()
+    ensures { (step : Step) → (move : Move) × (step_of move ≡ step) }
 {}

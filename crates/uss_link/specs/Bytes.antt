@@ -1,5 +1,5 @@
 -- What a read of a source and a write to a sink do to the bytes, where these are told. This project's own.
-use Rattle.std.specs.Prelude.{◌≡◌, ℕ, ◌≤◌, ◌<◌, List, [], ◌++◌, length, take, drop, Option, Some, Result, IfOk, MatchResult}
+use Rattle.std.specs.Prelude.{◌≡◌, ℕ, ◌≤◌, ◌<◌, List, [], ◌++◌, length, take, drop, Option, Some, None, Result, IfOk, MatchResult}
 
 -- A read took n of the bytes that were left: the first n, which stand at the front of the buffer. It took none
 -- only where the buffer is empty or nothing was left: a source that gives nothing has ended.
@@ -9,10 +9,12 @@ pub record Takes (left : List ℕ) (after : Option (List ℕ)) (buffer filled : 
   pub rest : after ≡ Some (drop n left)
   pub ended : n ≡ 0 → 0 < length buffer → left ≡ []
 
--- what one read does, from what was left before to what is left after; a fault takes and gives no bytes
+-- what one read does, from what was left before to what is left after; a fault takes and gives no bytes. What is told
+-- stays told, and a source that doesn't tell doesn't begin to.
 pub record Reads {E : Type 0} (before after : Option (List ℕ)) (buffer filled : List ℕ) (answer : Result ℕ E) : Type 0 where
   pub within : IfOk answer (λ n. n ≤ length buffer)
   pub told : (left : List ℕ) → before ≡ Some left → MatchResult answer (Takes left after buffer filled) (λ _. after ≡ Some left)
+  pub untold : before ≡ None → after ≡ None
 
 -- what one write does: the sink takes bytes from the front, at least one of a piece that isn't empty; a fault
 -- takes none

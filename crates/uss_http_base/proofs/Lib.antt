@@ -1,0 +1,11 @@
+pub mod Passing
+pub mod Room
+pub mod Targets
+pub mod Fronts
+pub mod Finding
+pub mod HeadSteps
+pub mod ChunkSteps
+pub mod BodySteps
+pub mod SourceSteps
+pub mod RequestSteps
+pub mod Lifting

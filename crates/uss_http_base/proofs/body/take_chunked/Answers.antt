@@ -1,0 +1,8 @@
+use Rattle.uss_http_base.proofs.BodySteps.{chunked_taken, trailers_missing}
+use Rattle.uss_http_base.proofs.body.take_chunked.Goals as goal
+
+pub returns-in-Ok-take_trailers-clause-taken : goal.returns-in-Ok-take_trailers-clause-taken
+returns-in-Ok-take_trailers-clause-taken g c = chunked_taken g.T.Stream.gave c.args.stream.now c.take_chunks.new.stream c.take_trailers.new.stream c.args.intake.now c.take_chunks.new.intake c.take_chunks.new.body.items c.in-Ok.ensures.taken c.in-Ok-take_trailers.ensures.taken
+
+pub returns-clause-refused : goal.returns-clause-refused
+returns-clause-refused g c = rw c.piece_refusal.ensures (trailers_missing g.T.Stream.gave g.T.Stream.ended c.args.stream.now c.take_chunks.new.stream c.take_trailers.new.stream c.args.intake.now c.take_chunks.new.intake c.take_chunks.new.body.items c.in-Err-take_trailers.halt c.in-Ok.ensures.taken c.in-Err-take_trailers.ensures.refused)

@@ -1,0 +1,18 @@
+use Rattle.std.proofs.Common.{refl, arith}
+use Rattle.uss_http_base.proofs.BodySteps.{chunks_more, chunks_end, chunk_missing}
+use Rattle.uss_http_base.proofs.body.take_chunks.Goals as goal
+
+pub chunks-preserved : goal.chunks-preserved
+chunks-preserved g c =
+    let one = c.in-Ok-Chunk.ensures.chunk (rw c.in-Ok-Chunk.field-0-is refl) in
+    record {
+      within = one.within;
+      taken = chunks_more g.T.Stream.gave c.args.stream.now c.chunks.stream c.take_chunk.new.stream c.args.intake.now c.chunks.intake c.take_chunk.new.intake c.chunks.body.items c.take_chunk.new.body.items c.chunks.invariant.taken one;
+      kept = omega (arith, c.chunks.invariant.kept, c.take_chunk.ensures.kept);
+    }
+
+pub returns-in-Ok-Last-clause-taken : goal.returns-in-Ok-Last-clause-taken
+returns-in-Ok-Last-clause-taken g c = chunks_end g.T.Stream.gave c.args.stream.now c.chunks.stream c.take_chunk.new.stream c.args.intake.now c.chunks.intake c.take_chunk.new.intake c.chunks.body.items c.take_chunk.new.body.items c.chunks.invariant.taken (c.in-Ok-Last.ensures.last (rw c.in-Ok-Last.field-0-is refl))
+
+pub returns-in-Err-clause-refused : goal.returns-in-Err-clause-refused
+returns-in-Err-clause-refused g c = chunk_missing g.T.Stream.gave g.T.Stream.ended c.args.stream.now c.chunks.stream c.take_chunk.new.stream c.args.intake.now c.chunks.intake c.chunks.body.items c.in-Err.refusal c.chunks.invariant.taken c.in-Err.ensures.refused

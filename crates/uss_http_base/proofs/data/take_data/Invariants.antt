@@ -1,0 +1,14 @@
+use Rattle.std.proofs.Common.{◌≡◌, ◌≤◌, ◌<◌, ◌-◌, []}
+use Rattle.uss_http_base.specs.Streams.{Moves}
+use Rattle.uss_http_base.proofs.data.take_data.Given as goal
+
+abbrev pub invariant-moving : goal.invariant-moving
+invariant-moving g l = record {
+  some_left : l.missing ≤ l.count;
+  moves : Moves g.T.Stream.gave l.fn.stream l.fn.intake l.stream l.intake l.fn.body.items l.body.items (l.count - l.missing);
+  empty : 0 < l.missing → l.intake ≡ [];
+  kept : g.T.Stream.faults l.fn.stream ≤ g.T.Stream.faults l.stream;
+}
+
+abbrev pub decreases-moving : goal.decreases-moving
+decreases-moving g l = l.missing

@@ -1,0 +1,12 @@
+use Rattle.std.proofs.Common.{◌≤◌, ◌-◌, length}
+use Rattle.uss_http_base.specs.Streams.{Passes}
+use Rattle.uss_http_base.proofs.piece.take_piece.Given as goal
+
+abbrev pub invariant-looking : goal.invariant-looking
+invariant-looking g l = record {
+  passes : Passes g.T.Stream.gave l.fn.stream l.fn.intake l.stream l.intake;
+  kept : g.T.Stream.faults l.fn.stream ≤ g.T.Stream.faults l.stream;
+}
+
+abbrev pub decreases-looking : goal.decreases-looking
+decreases-looking g l = 16384 - length l.intake

@@ -1,0 +1,13 @@
+pub mod Streams
+pub mod Pieces
+pub mod Heads
+pub mod Target
+pub mod Fields
+pub mod Found
+pub mod HeadAnswers
+pub mod Chunks
+pub mod Bodies
+pub mod ChunkAnswers
+pub mod BodyAnswers
+pub mod Requests
+pub mod Sources

@@ -1,0 +1,109 @@
+ghost use Rattle.std.specs.Prelude.{◌≡◌, ℕ, [], ◌≤◌, length, Err, IfOk, IfErr, OnOk};
+ghost use Rattle.uss_cause.specs.Cause.{Rose};
+ghost use Rattle.uss_http_base.specs.Bodies.{TakesBody, MissesBody};
+ghost use Rattle.uss_http_base.specs.BodyAnswers.{TakesToLast};
+
+use crate::chunk::{BODY_LIMIT, Turn, piece_refusal, take_chunk};
+use crate::data::take_data;
+use crate::fields::Framing;
+use crate::intake::Intake;
+use crate::refusal::ReadRefusal;
+use crate::stream::Stream;
+use crate::trailers::{Trailers, take_trailers};
+use std::alloc::{AllocError, Global};
+
+/// Takes chunks up to and with the last line, and adds their bytes to the body.
+fn take_chunks<T: Stream>(
+    stream: &mut T,
+    intake: &mut Intake,
+    body: &mut Vec<u8>,
+) -> Result<(), ReadRefusal>
+    requires { body.old.items ≡ [] }
+    ensures taken { OnOk result (TakesToLast T.gave stream.old intake.old stream.new intake.new body.new.items) }
+    ensures refused { IfErr result (MissesBody T.gave T.ended stream.old intake.old stream.new Framing.Chunked) }
+    ensures kept { T.faults stream.old ≤ T.faults stream.new }
+    ensures fault { result ≡ Err ReadRefusal.Fault → Rose (T.faults stream.old) (T.faults stream.new) }
+{
+    'chunks: loop {
+        match take_chunk(stream, intake, body) {
+            Ok(Turn::Chunk) => {}
+            Ok(Turn::Last) => return Ok(()),
+            Err(refusal) => return Err(refusal),
+        }
+    }
+}
+
+/// Takes a body in chunks, with its trailers.
+fn take_chunked<T: Stream>(
+    alloc: Global,
+    stream: &mut T,
+    intake: &mut Intake,
+    body: &mut Vec<u8>,
+) -> Result<(), ReadRefusal>
+    requires { body.old.items ≡ [] }
+    ensures taken { OnOk result (TakesBody T.gave stream.old intake.old stream.new Framing.Chunked body.new.items) }
+    ensures refused { IfErr result (MissesBody T.gave T.ended stream.old intake.old stream.new Framing.Chunked) }
+    ensures kept { T.faults stream.old ≤ T.faults stream.new }
+    ensures fault { result ≡ Err ReadRefusal.Fault → Rose (T.faults stream.old) (T.faults stream.new) }
+{
+    match take_chunks(stream, intake, body) {
+        Ok(()) => {}
+        Err(refusal) => return Err(refusal),
+    }
+    let mut trailers = match Trailers::new(alloc) {
+        Ok(trailers) => trailers,
+        Err(AllocError) => return Err(ReadRefusal::Memory),
+    };
+    match take_trailers(stream, intake, &mut trailers) {
+        Ok(()) => Ok(()),
+        Err(halt) => Err(piece_refusal(halt)),
+    }
+}
+
+/// Takes a body by its length.
+fn take_sized<T: Stream>(
+    stream: &mut T,
+    intake: &mut Intake,
+    count: u32,
+    body: &mut Vec<u8>,
+) -> Result<(), ReadRefusal>
+    requires { body.old.items ≡ [] }
+    ensures taken { OnOk result (TakesBody T.gave stream.old intake.old stream.new (Framing.Length count) body.new.items) }
+    ensures refused { IfErr result (MissesBody T.gave T.ended stream.old intake.old stream.new (Framing.Length count)) }
+    ensures kept { T.faults stream.old ≤ T.faults stream.new }
+    ensures fault { result ≡ Err ReadRefusal.Fault → Rose (T.faults stream.old) (T.faults stream.new) }
+{
+    if count as usize > BODY_LIMIT {
+        return Err(ReadRefusal::BodyTooLarge);
+    }
+    match take_data(stream, intake, count as usize, body) {
+        Ok(()) => Ok(()),
+        Err(halt) => Err(piece_refusal(halt)),
+    }
+}
+
+/// Takes a body whose end is found so.
+pub fn take_body<T: Stream>(
+    alloc: Global,
+    stream: &mut T,
+    intake: &mut Intake,
+    framing: Framing,
+) -> Result<Vec<u8>, ReadRefusal>
+    ensures taken { IfOk result (λ body. TakesBody T.gave stream.old intake.old stream.new framing body.items) }
+    ensures refused { IfErr result (MissesBody T.gave T.ended stream.old intake.old stream.new framing) }
+    ensures kept { T.faults stream.old ≤ T.faults stream.new }
+    ensures fault { result ≡ Err ReadRefusal.Fault → Rose (T.faults stream.old) (T.faults stream.new) }
+{
+    let mut body = Vec::new(alloc);
+    match framing {
+        Framing::Nothing => Ok(body),
+        Framing::Length(count) => match take_sized(stream, intake, count, &mut body) {
+            Ok(()) => Ok(body),
+            Err(refusal) => Err(refusal),
+        },
+        Framing::Chunked => match take_chunked(alloc, stream, intake, &mut body) {
+            Ok(()) => Ok(body),
+            Err(refusal) => Err(refusal),
+        },
+    }
+}

@@ -1,0 +1,61 @@
+ghost use Rattle.std.specs.Prelude.{◌≡◌, ℕ, ◌≤◌, List, length, codes};
+ghost use Rattle.httparse.specs.Grammar.{ChunkLine, NeverHasChunkLine, NeverHasSection};
+ghost use Rattle.httparse.specs.Spans.{IsChunkLineAt, IsSectionOf};
+ghost use Rattle.uss_http_base.specs.Chunks.{IsOpenLine, AreOpenTrailers, HasLineEnd, IsOpenLineEnd, NeverHasLineEnd};
+ghost use Rattle.uss_http_base.specs.Pieces.{MatchLook, piece_limit};
+
+use crate::piece::{Look, Piece};
+use httparse::{Status, parse_chunk_size};
+
+/// The size line of a chunk.
+#[derive(Clone, Copy, Debug)]
+pub struct SizeLine;
+
+impl Piece for SizeLine {
+    /// The length of the line, and the size that it says.
+    type Found = (usize, u64);
+
+    ghost found = { λ _ bytes found. (line : ChunkLine) × IsChunkLineAt bytes found.0 found.1 line };
+
+    ghost unfinished = { λ _ bytes. IsOpenLine bytes };
+
+    ghost never = { λ _ bytes. NeverHasChunkLine bytes };
+
+    fn look(&mut self, bytes: &[u8]) -> Look<(usize, u64)> {
+        match parse_chunk_size(bytes) {
+            Ok(Status::Complete(found)) => Look::Whole(found),
+            Ok(Status::Partial) => Look::NotYet,
+            Err(_) => Look::Never,
+        }
+    }
+}
+
+/// The CR LF behind the bytes of a chunk.
+#[derive(Clone, Copy, Debug)]
+pub struct ChunkEnd;
+
+impl Piece for ChunkEnd {
+    type Found = ();
+
+    ghost found = { λ _ bytes _. HasLineEnd bytes };
+
+    ghost unfinished = { λ _ bytes. IsOpenLineEnd bytes };
+
+    ghost never = { λ _ bytes. NeverHasLineEnd bytes };
+
+    fn look(&mut self, bytes: &[u8]) -> Look<()> {
+        if bytes.is_empty() {
+            return Look::NotYet;
+        }
+        if bytes[0] != b'\r' {
+            return Look::Never;
+        }
+        if bytes.len() == 1 {
+            return Look::NotYet;
+        }
+        if bytes[1] != b'\n' {
+            return Look::Never;
+        }
+        Look::Whole(())
+    }
+}

@@ -1,0 +1,38 @@
+ghost use Rattle.std.specs.Prelude.{◌≡◌, ◌≤◌, Err, IfErr, OnOk};
+ghost use Rattle.uss_cause.specs.Cause.{Rose};
+ghost use Rattle.uss_http_base.specs.Streams.{Moves, Lacks, IsEndOrOutside};
+
+use crate::halt::Halt;
+use crate::intake::Intake;
+use crate::stream::Stream;
+
+/// Moves so many bytes to the end of the body: those not yet used, and then the next ones of the stream.
+pub fn take_data<T: Stream>(
+    stream: &mut T,
+    intake: &mut Intake,
+    count: usize,
+    body: &mut Vec<u8>,
+) -> Result<(), Halt>
+    ensures done { OnOk result (Moves T.gave stream.old intake.old stream.new intake.new body.old.items body.new.items count) }
+    ensures cut { result ≡ Err Halt.Cut → Lacks T.gave T.ended stream.old intake.old stream.new count }
+    ensures kept { T.faults stream.old ≤ T.faults stream.new }
+    ensures fault { result ≡ Err Halt.Fault → Rose (T.faults stream.old) (T.faults stream.new) }
+    ensures kinds { IfErr result IsEndOrOutside }
+{
+    let ready = count.min(intake.len());
+    body.extend_from_slice(&intake.as_slice()[..ready])?;
+    intake.use_front(ready);
+    let mut missing = count - ready;
+    'moving: while missing > 0 {
+        match intake.read_past(stream, missing, body) {
+            Ok(came) => {
+                if came == 0 {
+                    return Err(Halt::Cut);
+                }
+                missing -= came;
+            }
+            Err(halt) => return Err(halt),
+        }
+    }
+    Ok(())
+}

@@ -1,0 +1,194 @@
+ghost use Rattle.std.specs.Prelude.{◌≡◌, ◌≤◌, List, length, map, All, Err, IfOk, IfErr};
+ghost use Rattle.httparse.specs.Spans.{IsRequestOf, IsRequestWithin, IsWithin, IsHeaderWithin, span_bytes, header_bytes};
+ghost use Rattle.uss_cause.specs.Cause.{Rose};
+ghost use Rattle.uss_http_base.specs.Heads.{IsOpenHead, BeginsNoHead};
+ghost use Rattle.uss_http_base.specs.HeadAnswers.{IsHeadAt, TakesHead, MissesHead, refusal_of_head};
+ghost use Rattle.uss_http_base.specs.Pieces.{MatchLook, piece_limit};
+
+use crate::fields::{Framing, body_framing, client_name};
+use crate::halt::Halt;
+use crate::intake::Intake;
+use crate::piece::{Look, Piece, take_piece};
+use crate::refusal::ReadRefusal;
+use crate::stream::Stream;
+use crate::target::ends_in_target;
+use httparse::Status;
+use httparse::spans::{EMPTY_HEADER_SPAN, HeaderSpan, RequestSpans, Span, parse_request};
+use std::alloc::{AllocError, Global};
+use std::marker::Model;
+use uss_intent::{Name, Sequence};
+
+/// Bytes of a message, seen as their list.
+pub type Bytes = Sequence<u8>;
+
+/// Room for the fields of a head: as many as 16 KiB can have, so that there are never too many.
+pub(crate) const ROOM: usize = 5462;
+
+/// Heads of requests, with the places of the fields of the last one that was found.
+#[derive(Drop)]
+pub struct RequestHeads {
+    headers: Vec<HeaderSpan>,
+}
+
+impl Model for RequestHeads {
+    ghost use Rattle.std.specs.Prelude.{◌≡◌, List, length};
+    ghost use Rattle.httparse.specs.declared.spans.HeaderSpan.{HeaderSpan};
+
+    ghost Value = { List HeaderSpan };
+
+    ghost view = { λ h. h.headers.items };
+
+    ghost invariant = { λ h. length h.headers.items ≡ 5462 };
+}
+
+/// So many empty places.
+pub(crate) fn places(alloc: Global, count: usize) -> Result<Vec<HeaderSpan>, AllocError>
+    ensures { IfOk result (λ places. length places.items ≡ count) }
+{
+    vec![in alloc; EMPTY_HEADER_SPAN; count]
+}
+
+impl RequestHeads {
+    /// No head was found yet.
+    pub fn new(alloc: Global) -> Result<RequestHeads, AllocError> {
+        let headers = places(alloc, ROOM)?;
+        Ok(RequestHeads { headers })
+    }
+
+    /// The places of the fields.
+    pub fn headers(&self) -> &[HeaderSpan]
+        ensures { result.now ≡ self.now }
+    {
+        self.headers.as_slice()
+    }
+}
+
+impl Piece for RequestHeads {
+    ghost use Rattle.httparse.specs.declared.spans.RequestSpans.{RequestSpans};
+
+    type Found = RequestSpans;
+
+    ghost found = { λ heads bytes spans. IsRequestOf bytes heads spans × IsRequestWithin bytes heads spans };
+
+    ghost unfinished = { λ _ bytes. IsOpenHead bytes };
+
+    ghost never = { λ _ bytes. BeginsNoHead bytes };
+
+    fn look(&mut self, bytes: &[u8]) -> Look<RequestSpans> {
+        look_for_head(bytes, self.headers.as_mut_slice())
+    }
+}
+
+/// What the bytes show of a head at their front.
+fn look_for_head(bytes: &[u8], headers: &mut [HeaderSpan]) -> Look<RequestSpans>
+    requires limit { length bytes.now ≤ piece_limit }
+    requires room { length headers.old ≡ 5462 }
+    ensures { MatchLook result (λ spans. IsRequestOf bytes.now headers.new spans × IsRequestWithin bytes.now headers.new spans) (IsOpenHead bytes.now) (BeginsNoHead bytes.now) }
+{
+    match parse_request(bytes, headers) {
+        Ok(Status::Complete(spans)) => Look::Whole(spans),
+        Ok(Status::Partial) => Look::NotYet,
+        Err(_) if ends_in_target(bytes) => Look::NotYet,
+        Err(_) => Look::Never,
+    }
+}
+
+/// The first line of a head and what its fields say of the body and of the client.
+#[derive(Debug, Drop)]
+pub struct Head {
+    /// The method, as `GET`.
+    pub method: Bytes,
+    /// The target, as it stands.
+    pub path: Bytes,
+    /// The name of the client.
+    pub client: Name,
+    /// How the end of the body is found.
+    pub framing: Framing,
+}
+
+/// A copy of the bytes that a span covers.
+fn copied(alloc: Global, bytes: &[u8], span: Span) -> Result<Bytes, ReadRefusal>
+    requires { IsWithin (length bytes.now) span }
+    ensures bytes { IfOk result (λ copy. copy ≡ span_bytes bytes.now span) }
+    ensures memory { IfErr result (λ e. e ≡ ReadRefusal.Memory) }
+{
+    match Vec::from_slice(alloc, span.of(bytes)) {
+        Ok(copy) => Ok(Bytes::from_vec(copy)),
+        Err(AllocError) => Err(ReadRefusal::Memory),
+    }
+}
+
+/// The head at these places of the bytes.
+fn head_at(
+    alloc: Global,
+    bytes: &[u8],
+    headers: &[HeaderSpan],
+    method: Span,
+    path: Span,
+) -> Result<Head, ReadRefusal>
+    requires method { IsWithin (length bytes.now) method }
+    requires path { IsWithin (length bytes.now) path }
+    requires headers { All (IsHeaderWithin (length bytes.now)) headers.now }
+    ensures { IsHeadAt (span_bytes bytes.now method) (span_bytes bytes.now path) (map (header_bytes bytes.now) headers.now) result }
+{
+    let framing = match body_framing(bytes, headers) {
+        Some(framing) => framing,
+        None => return Err(ReadRefusal::BadHead),
+    };
+    let client = match client_name(alloc, bytes, headers) {
+        Ok(client) => client,
+        Err(refusal) => return Err(refusal),
+    };
+    let method = match copied(alloc, bytes, method) {
+        Ok(method) => method,
+        Err(refusal) => return Err(refusal),
+    };
+    let path = match copied(alloc, bytes, path) {
+        Ok(path) => path,
+        Err(refusal) => return Err(refusal),
+    };
+    Ok(Head {
+        method,
+        path,
+        client,
+        framing,
+    })
+}
+
+/// Why there is no head.
+fn head_refusal(halt: Halt) -> ReadRefusal
+    ensures { result ≡ refusal_of_head halt }
+{
+    match halt {
+        Halt::Bad => ReadRefusal::BadHead,
+        Halt::Long => ReadRefusal::HeadTooLarge,
+        Halt::Cut => ReadRefusal::Truncated,
+        Halt::Fault => ReadRefusal::Fault,
+        Halt::Memory => ReadRefusal::Memory,
+    }
+}
+
+/// Takes a head from the stream.
+pub fn take_head<T: Stream>(
+    alloc: Global,
+    stream: &mut T,
+    intake: &mut Intake,
+    heads: &mut RequestHeads,
+) -> Result<Head, ReadRefusal>
+    ensures taken { IfOk result (TakesHead T.gave stream.old intake.old stream.new intake.new) }
+    ensures refused { IfErr result (MissesHead T.gave T.ended stream.old intake.old stream.new) }
+    ensures kept { T.faults stream.old ≤ T.faults stream.new }
+    ensures fault { result ≡ Err ReadRefusal.Fault → Rose (T.faults stream.old) (T.faults stream.new) }
+{
+    let spans = match take_piece(stream, intake, heads) {
+        Ok(spans) => spans,
+        Err(halt) => return Err(head_refusal(halt)),
+    };
+    let headers = &heads.headers()[..spans.headers];
+    let head = match head_at(alloc, intake.front(), headers, spans.method, spans.path) {
+        Ok(head) => head,
+        Err(refusal) => return Err(refusal),
+    };
+    intake.use_front(spans.len);
+    Ok(head)
+}

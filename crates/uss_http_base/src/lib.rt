@@ -1,0 +1,35 @@
+//! Messages of HTTP/1.1 over bytes: heads, bodies by length and in chunks, and requests.
+#![tactic(auto)]
+
+mod body;
+mod chunk;
+mod chunk_pieces;
+mod data;
+mod fields;
+mod halt;
+mod heads;
+mod intake;
+mod piece;
+mod refusal;
+mod request;
+mod sources;
+mod stream;
+mod target;
+#[cfg(test)]
+mod tests;
+mod trailers;
+
+pub use body::take_body;
+pub use chunk::{BODY_LIMIT, Turn, piece_refusal, take_chunk};
+pub use chunk_pieces::{ChunkEnd, SizeLine};
+pub use data::take_data;
+pub use fields::{Framing, Values, body_framing, client_name};
+pub use halt::Halt;
+pub use heads::{Bytes, Head, RequestHeads, take_head};
+pub use intake::{Intake, More};
+pub use piece::{Look, PIECE_LIMIT, Piece, take_piece};
+pub use refusal::ReadRefusal;
+pub use request::{Request, take_request};
+pub use sources::request_from;
+pub use stream::{Stream, StreamFault};
+pub use trailers::{Trailers, take_trailers};

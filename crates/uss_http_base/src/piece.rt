@@ -1,0 +1,74 @@
+ghost use Rattle.std.specs.Prelude.{◌≡◌, ℕ, ◌<◌, ◌≤◌, List, length, take, Ok, Err, IfOk, IsErrOf};
+ghost use Rattle.uss_cause.specs.Cause.{Rose};
+ghost use Rattle.uss_http_base.specs.Streams.{Passes, UnlessOutside};
+ghost use Rattle.uss_http_base.specs.Pieces.{MatchLook, piece_limit};
+
+use crate::halt::Halt;
+use crate::intake::{Intake, More};
+use crate::stream::Stream;
+
+/// What a look at bytes shows of a piece of a message.
+#[derive(Clone, Copy, Debug, PartialEq, Eq)]
+pub enum Look<F> {
+    /// The bytes begin with a whole piece.
+    Whole(F),
+    /// They don't, but with more bytes they may.
+    NotYet,
+    /// Whatever bytes follow, they don't begin with such a piece.
+    Never,
+}
+
+/// A kind of piece of a message, which is found at the front of bytes.
+pub trait Piece {
+    /// What is told of a piece that was found.
+    type Found: Copy + Drop;
+
+    /// These bytes begin with this piece.
+    ghost found: { Self → List ℕ → Self.Found → Type 0 };
+
+    /// These bytes begin with no such piece, but with more bytes they may.
+    ghost unfinished: { Self → List ℕ → Type 0 };
+
+    /// Whatever bytes follow, these begin with no such piece.
+    ghost never: { Self → List ℕ → Type 0 };
+
+    /// Looks at the bytes, of which there are at most 16 KiB.
+    fn look(&mut self, bytes: &[u8]) -> Look<Self::Found>
+        requires { length bytes.now ≤ piece_limit }
+        ensures { MatchLook result (found self.new bytes.now) (unfinished self.new bytes.now) (never self.new bytes.now) };
+}
+
+/// Within how many bytes a piece has to end.
+pub const PIECE_LIMIT: usize = 16384;
+
+/// Takes bytes until a look at them shows a whole piece at their front. The piece stays among the bytes not yet
+/// used. It looks again only when a line ended, the bytes doubled, or their limit was reached.
+pub fn take_piece<T: Stream, P: Piece>(
+    stream: &mut T,
+    intake: &mut Intake,
+    piece: &mut P,
+) -> Result<P::Found, Halt>
+    ensures passes { UnlessOutside result (Passes T.gave stream.old intake.old stream.new intake.new) }
+    ensures found { IfOk result (P.found piece.new (take piece_limit intake.new)) }
+    ensures bad { result ≡ Err Halt.Bad → P.never piece.new (take piece_limit intake.new) }
+    ensures long { result ≡ Err Halt.Long → (piece_limit ≤ length intake.new) × P.unfinished piece.new (take piece_limit intake.new) }
+    ensures cut { result ≡ Err Halt.Cut → (length intake.new < piece_limit) × P.unfinished piece.new (take piece_limit intake.new) × T.ended stream.new }
+    ensures kept { T.faults stream.old ≤ T.faults stream.new }
+    ensures fault { result ≡ Err Halt.Fault → Rose (T.faults stream.old) (T.faults stream.new) }
+{
+    'looking: loop {
+        match piece.look(intake.front()) {
+            Look::Whole(found) => return Ok(found),
+            Look::Never => return Err(Halt::Bad),
+            Look::NotYet => {}
+        }
+        if intake.len() >= PIECE_LIMIT {
+            return Err(Halt::Long);
+        }
+        match intake.take_lines(stream, PIECE_LIMIT) {
+            Ok(More::Some) => {}
+            Ok(More::End) => return Err(Halt::Cut),
+            Err(halt) => return Err(halt),
+        }
+    }
+}

@@ -1,0 +1,55 @@
+ghost use Rattle.std.specs.Prelude.{◌≡◌, ℕ, ◌≤◌, List, Some, Err, IsErrOf};
+ghost use Rattle.uss_cause.specs.Cause.{Rose};
+ghost use Rattle.uss_http_base.specs.Requests.{AnswersStream, IsAnswerOf};
+
+use crate::body::take_body;
+use crate::heads::{Bytes, RequestHeads, take_head};
+use crate::intake::Intake;
+use crate::refusal::ReadRefusal;
+use crate::stream::Stream;
+use std::alloc::{AllocError, Global};
+use uss_intent::Name;
+
+/// A request: its method and path as they stand, the name of the client, and the body.
+#[derive(Debug, Drop)]
+pub struct Request {
+    /// The method, as `GET`.
+    pub method: Bytes,
+    /// The target, as it stands.
+    pub path: Bytes,
+    /// The name of the client, of the field `USS-Client`.
+    pub client: Name,
+    /// The body, at most 8 MiB.
+    pub body: Bytes,
+}
+
+/// Takes one request from a stream of which nothing was read before. Bytes behind it may have been taken too: a
+/// connection carries one request.
+pub fn take_request<T: Stream>(alloc: Global, stream: &mut T) -> Result<Request, ReadRefusal>
+    ensures answer { AnswersStream T.gave T.ended stream.old stream.new result }
+    ensures kept { T.faults stream.old ≤ T.faults stream.new }
+    ensures fault { result ≡ Err ReadRefusal.Fault → Rose (T.faults stream.old) (T.faults stream.new) }
+{
+    let mut intake = match Intake::new(alloc) {
+        Ok(intake) => intake,
+        Err(AllocError) => return Err(ReadRefusal::Memory),
+    };
+    let mut heads = match RequestHeads::new(alloc) {
+        Ok(heads) => heads,
+        Err(AllocError) => return Err(ReadRefusal::Memory),
+    };
+    let head = match take_head(alloc, stream, &mut intake, &mut heads) {
+        Ok(head) => head,
+        Err(refusal) => return Err(refusal),
+    };
+    let body = match take_body(alloc, stream, &mut intake, head.framing) {
+        Ok(body) => body,
+        Err(refusal) => return Err(refusal),
+    };
+    Ok(Request {
+        method: head.method,
+        path: head.path,
+        client: head.client,
+        body: Bytes::from_vec(body),
+    })
+}

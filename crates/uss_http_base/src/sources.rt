@@ -1,0 +1,37 @@
+ghost use Rattle.std.specs.Prelude.{◌≡◌, ℕ, ◌≤◌, List, Some, Err};
+ghost use Rattle.uss_cause.specs.Cause.{Rose};
+ghost use Rattle.uss_http_base.specs.Requests.{IsAnswerOf};
+ghost use Rattle.uss_http_base.specs.Sources.{GaveFrom, HasEnded, gave_nothing};
+
+use crate::refusal::ReadRefusal;
+use crate::request::{Request, take_request};
+use crate::stream::{Stream, StreamFault};
+use std::alloc::Global;
+use uss_link::{ReadFault, Source};
+
+impl<S: Source> Stream for S {
+    ghost faults = { S.faults };
+
+    ghost gave = { λ s t bytes. GaveFrom (S.left s) (S.left t) bytes };
+
+    ghost ended = { λ s. HasEnded (S.left s) };
+
+    fn next(&mut self, buffer: &mut [u8]) -> Result<usize, StreamFault> {
+        match self.read(buffer) {
+            Ok(count) => Ok(count),
+            Err(ReadFault) => Err(StreamFault),
+        }
+    }
+
+    ghost nothing = { λ s. gave_nothing (S.left s) };
+}
+
+/// Reads one request from a source. The answer is that of the bytes that the source has left, whatever pieces they come
+/// in, if it tells them: the request at their front, or why there is none.
+pub fn request_from<S: Source>(alloc: Global, input: &mut S) -> Result<Request, ReadRefusal>
+    ensures exact { (bytes : List ℕ) → S.left input.old ≡ Some bytes → IsAnswerOf bytes result }
+    ensures kept { S.faults input.old ≤ S.faults input.new }
+    ensures fault { result ≡ Err ReadRefusal.Fault → Rose (S.faults input.old) (S.faults input.new) }
+{
+    take_request(alloc, input)
+}

@@ -1,0 +1,86 @@
+ghost use Rattle.std.specs.Prelude.{◌≡◌, ℕ, ◌≤◌, List, length, drop, Err, IfOk, IfErr, OnOk};
+ghost use Rattle.httparse.specs.Grammar.{LineEnd, Field, print_section, ReadsSection, NeverHasSection};
+ghost use Rattle.uss_cause.specs.Cause.{Rose};
+ghost use Rattle.uss_http_base.specs.BodyAnswers.{TakesTrailers, MissesTrailers};
+ghost use Rattle.uss_http_base.specs.Chunks.{AreOpenTrailers};
+ghost use Rattle.uss_http_base.specs.Pieces.{MatchLook, piece_limit};
+
+use crate::halt::Halt;
+use crate::heads::{ROOM, places};
+use crate::intake::Intake;
+use crate::piece::{Look, Piece, take_piece};
+use crate::stream::Stream;
+use httparse::Status;
+use httparse::spans::{HeaderSpan, parse_headers};
+use std::alloc::{AllocError, Global};
+use std::marker::Model;
+
+/// The fields behind the last chunk of a body, which are dropped.
+#[derive(Drop)]
+pub struct Trailers {
+    headers: Vec<HeaderSpan>,
+}
+
+impl Model for Trailers {
+    ghost use Rattle.std.specs.Prelude.{◌≡◌, List, length};
+    ghost use Rattle.httparse.specs.declared.spans.HeaderSpan.{HeaderSpan};
+
+    ghost Value = { List HeaderSpan };
+
+    ghost view = { λ t. t.headers.items };
+
+    ghost invariant = { λ t. length t.headers.items ≡ 5462 };
+}
+
+impl Trailers {
+    /// No trailers were found yet.
+    pub fn new(alloc: Global) -> Result<Trailers, AllocError> {
+        let headers = places(alloc, ROOM)?;
+        Ok(Trailers { headers })
+    }
+}
+
+impl Piece for Trailers {
+    /// The length of the trailers, with the empty line behind them.
+    type Found = usize;
+
+    ghost found = { λ _ bytes len. (fields : List Field) × (end : LineEnd) × ReadsSection bytes fields end (drop len bytes) };
+
+    ghost unfinished = { λ _ bytes. AreOpenTrailers bytes };
+
+    ghost never = { λ _ bytes. NeverHasSection bytes };
+
+    fn look(&mut self, bytes: &[u8]) -> Look<usize> {
+        look_for_trailers(bytes, self.headers.as_mut_slice())
+    }
+}
+
+/// What the bytes show of trailers at their front.
+fn look_for_trailers(bytes: &[u8], headers: &mut [HeaderSpan]) -> Look<usize>
+    requires limit { length bytes.now ≤ piece_limit }
+    requires room { length headers.old ≡ 5462 }
+    ensures { MatchLook result (λ len. (fields : List Field) × (end : LineEnd) × ReadsSection bytes.now fields end (drop len bytes.now)) (AreOpenTrailers bytes.now) (NeverHasSection bytes.now) }
+{
+    match parse_headers(bytes, headers) {
+        Ok(Status::Complete((len, _))) => Look::Whole(len),
+        Ok(Status::Partial) => Look::NotYet,
+        Err(_) => Look::Never,
+    }
+}
+
+/// Takes bytes until the trailers are whole.
+pub fn take_trailers<T: Stream>(
+    stream: &mut T,
+    intake: &mut Intake,
+    trailers: &mut Trailers,
+) -> Result<(), Halt>
+    ensures taken { OnOk result (TakesTrailers T.gave stream.old intake.old stream.new) }
+    ensures refused { IfErr result (MissesTrailers T.gave T.ended stream.old intake.old stream.new) }
+    ensures kept { T.faults stream.old ≤ T.faults stream.new }
+    ensures fault { result ≡ Err Halt.Fault → Rose (T.faults stream.old) (T.faults stream.new) }
+{
+    match take_piece(stream, intake, trailers) {
+        Ok(_) => Ok(()),
+        Err(halt) => Err(halt),
+    }
+}

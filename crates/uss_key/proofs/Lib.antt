@@ -1,0 +1,5 @@
+pub mod Lists
+pub mod Numbers
+pub mod Stores
+pub mod Rooms
+pub mod Caches

@@ -1,0 +1,24 @@
+use Rattle.std.proofs.Common.{◌≡◌, ◌≤◌, ◌++◌, true, false, sym, ◌∙◌, refl, length, length-append, arith}
+use Rattle.std.specs.List.{list_any}
+use Rattle.std.specs.Option.{option_to_list}
+use Rattle.std.proofs.lemmas.List.Folds.{list_any-append}
+use Rattle.uss_law_duty.specs.Heard.{is_of}
+use Rattle.uss_key.specs.Kept.{may_be_kept}
+use Rattle.uss_key.proofs.Rooms.{forgotten_first, only_forgotten}
+use Rattle.uss_key.proofs.cache.Cache.next_forgotten.Goals as goal
+
+pub returns-clause-forgotten : goal.returns-clause-forgotten
+returns-clause-forgotten c =
+    let settled = c.self.inside.settled in
+    let last = option_to_list c.self.inside.newest in
+    let no_settled : list_any (is_of c.args.flight) settled ≡ false = sym c.has.ensures ∙ c.if-has.false in
+    let no_last : list_any (is_of c.args.flight) last ≡ false = sym c.is_of.ensures ∙ c.if-is_of.false in
+    let none : list_any (is_of c.args.flight) (settled ++ last) ≡ false = list_any-append (is_of c.args.flight) settled last ∙ rw (no_settled, no_last) refl in
+    let one : length last ≤ 1 = omega arith in
+    let full : 4096 ≤ length (settled ++ last) = simp length-append (omega arith) in
+    rw (← c.self.view_is) (c.first_flight.ensures ∙ sym (forgotten_first c.args.flight settled last none full one))
+
+pub returns-clause-only : goal.returns-clause-only
+returns-clause-only c =
+    let valid : may_be_kept c.args.self.now.pairs ≡ true = rw (← c.self.view_is) c.self.invariant in
+    only_forgotten c.args.flight c.args.self.now.pairs c.first_flight.result (returns-clause-forgotten c) valid

@@ -1,0 +1,84 @@
+//! A cache over its limit.
+
+use crate::Cache;
+use std::alloc::Global;
+use std::test::Fail;
+use uss_event::{Details, Pair};
+use uss_intent::{Base, FlightId, Name, Ovn, Reference, State, Volumes, flight_id, ticket_id};
+use uss_shape::{Outline, Rect};
+use uss_vol4::Volume4;
+
+// from 2023-11-14T23:13:20Z to 23:43:20Z
+const EARLY: i64 = 1_700_003_600_000_000_000;
+
+const LATE: i64 = 1_700_005_400_000_000_000;
+
+fn intent(alloc: Global, flight: FlightId, version: u32) -> Result<Pair, Fail> {
+    let corners = Rect {
+        x1: 0,
+        y1: 0,
+        x2: 10,
+        y2: 10,
+    };
+    let mut volumes = Volumes::new(alloc);
+    volumes.push(Volume4::of(Outline::rect(alloc, corners)?, 0, 100, EARLY, LATE)?)?;
+    let reference = Reference {
+        flight,
+        manager: Name::of(alloc, b"uss2")?,
+        version,
+        state: State::Accepted,
+        ovn: Some(Ovn::of(alloc, b"ovn-0000000000000001")?),
+        start: EARLY,
+        end: LATE,
+        base: Base::of(alloc, b"http://uss2.test/a/1")?,
+        ticket: ticket_id(2, 1),
+    };
+    let details = Details::of(State::Accepted, volumes, Volumes::new(alloc), 0)?;
+    Ok(Pair::of(reference, details).ok_or("no pair")?)
+}
+
+// The version of the kept pair, and 0 where none is kept.
+fn version(cache: &Cache, flight: u64) -> u32 {
+    match cache.pair(flight_id(2, flight)) {
+        Some(pair) => pair.reference().version,
+        None => 0,
+    }
+}
+
+fn hear(alloc: Global, cache: &mut Cache, flight: u64, version: u32) -> Result<(), Fail> {
+    cache.reserve()?;
+    let pair = intent(alloc, flight_id(2, flight), version)?;
+    cache.hear(pair)?;
+    Ok(())
+}
+
+#[test]
+fn the_newer_version_stays_and_the_oldest_goes(rt: HostRuntime) -> Result<(), Fail> {
+    let mut cache = Cache::new(rt.alloc());
+    for (flight, heard, kept) in [
+        (1, 2, 2),
+        (2, 1, 1),
+        (1, 1, 2),
+        (1, 2, 2),
+        (2, 7, 7),
+        (1, 3, 3),
+    ] {
+        hear(rt.alloc(), &mut cache, flight, heard)?;
+        assert_eq!(rt; version(&cache, flight), kept);
+    }
+    cache.forget(flight_id(2, 1));
+    assert_eq!(rt; version(&cache, 1), 0);
+    for flight in 3..4098 {
+        hear(rt.alloc(), &mut cache, flight, 1)?;
+    }
+    assert_eq!(rt; version(&cache, 2), 7);
+    assert_eq!(rt; cache.next_forgotten(flight_id(2, 2)), None);
+    assert_eq!(rt;
+        cache.next_forgotten(flight_id(2, 4098)),
+        Some(flight_id(2, 2))
+    );
+    hear(rt.alloc(), &mut cache, 4098, 1)?;
+    assert_eq!(rt; version(&cache, 2), 0);
+    assert_eq!(rt; version(&cache, 3), 1);
+    Ok(())
+}
