@@ -1,0 +1,71 @@
+-- References that are written are read again.
+use Rattle.std.proofs.Common.{◌≡◌, ◌^◌, ℕ, ◌<◌, ◌≤◌, Bool, true, false, List, [], ◌∷◌, length, Some, None, Ok, Err, Result, refl, sym, ap, ◌∙◌, arith, ⊎_elim}
+use Rattle.std.specs.Prelude.{Option, nat_lt, nat_le, bytes_eq, IsTrue, if◌then◌else◌}
+use Rattle.std.proofs.lemmas.Bool.{cond-true, cond-false, cases_Bool}
+use Rattle.std.proofs.lemmas.Bool.Decides.{nat_tests}
+use Rattle.serde_json.specs.Data.{Data, object, member, string}
+use Rattle.uss_intent.specs.declared.records.Reference.{Reference}
+use Rattle.uss_wire_base.specs.Names.{name}
+use Rattle.uss_wire_base.specs.declared.refusal.Member.{Member}
+use Rattle.uss_wire_base.specs.declared.refusal.Member.TheVariants.{Whole, Ovn, OperationalIntentReferences, OperationalIntentReference}
+use Rattle.uss_wire_base.specs.declared.refusal.WireRefusal.{WireRefusal}
+use Rattle.uss_wire_base.specs.Reading.{optional, natural_below}
+use Rattle.uss_wire_base.specs.Writing.{AllOf, list_json}
+use Rattle.uss_wire_base.proofs.Again.{list_again, list_length}
+use Rattle.uss_wire_volume.proofs.Again.{time_again}
+use Rattle.uss_wire_intent.specs.Texts.{ovn_at}
+use Rattle.uss_wire_intent.specs.References.{front_at, back_at, dropped_ovn, ovn_for, answered_reference_at, references_at}
+use Rattle.uss_wire_intent.specs.Writing.{identifier_json, with_ovn, behind_ovn, reference_json}
+use Rattle.uss_wire_intent.proofs.Again.{base_again, name_again, ovn_again, identifier_again, state_again}
+use Rattle.uss_wire_answer.specs.Writing.{query_answer_json, get_answer_json, ShowsOvn, IsReadable}
+
+below_true : (n limit : ℕ) → n < limit → nat_lt n limit ≡ true
+below_true n limit h = grind (arith, nat_tests)
+
+le_true : (m n : ℕ) → m ≤ n → nat_le m n ≡ true
+le_true m n h = grind (arith, nat_tests)
+
+-- the reference with another OVN, and its value
+abbrev with_other : Reference → Option (List ℕ) → Reference
+with_other r o =
+    record { flight = r.flight; manager = r.manager; version = r.version; state = r.state; ovn = o; start = r.start; end = r.end; base = r.base; ticket = r.ticket }
+
+chosen : {A : Type 0} (b : Bool) (x y z : A) → x ≡ z → y ≡ z → (if b then x else y) ≡ z
+chosen true x y z p q = p
+chosen false x y z p q = q
+
+again_by : (client : List ℕ) (place : Member) (r : Reference) (o : Option (List ℕ)) → ShowsOvn client r.manager o → IsReadable client r → answered_reference_at client place (reference_json (with_other r o)) ≡ Ok (with_other r o)
+unfolding answered_reference_at front_at back_at reference_json name
+again_by client place r None shows h =
+    rw (
+      identifier_again _ r.flight h.flight,
+      name_again _ r.manager h.manager,
+      below_true r.version (2 ^ 32) h.version,
+      state_again _ r.state,
+      chosen {A = Result (Option (List ℕ)) WireRefusal} (bytes_eq r.manager client) (Ok None) (Ok None) (Ok None) refl refl,
+      time_again _ r.start h.start,
+      time_again _ r.end h.end,
+      base_again _ r.base h.base,
+      identifier_again _ r.ticket h.ticket,
+    ) refl
+again_by client place r (Some ovn) shows h =
+    rw (
+      identifier_again _ r.flight h.flight,
+      name_again _ r.manager h.manager,
+      below_true r.version (2 ^ 32) h.version,
+      state_again _ r.state,
+      shows.0,
+      ovn_again _ ovn shows.1,
+      time_again _ r.start h.start,
+      time_again _ r.end h.end,
+      base_again _ r.base h.base,
+      identifier_again _ r.ticket h.ticket,
+    ) refl
+
+pub reference_again : (client : List ℕ) (place : Member) (r : Reference) → IsReadable client r → answered_reference_at client place (reference_json r) ≡ Ok r
+reference_again client place r h = again_by client place r r.ovn h.ovn h
+
+pub references_again : (client : List ℕ) (m : Member) (rs : List Reference) → AllOf (IsReadable client) rs → length rs ≤ 4096 → references_at client m (list_json reference_json rs) ≡ Ok rs
+unfolding references_at
+references_again client m rs all few =
+    rw (list_length reference_json rs, le_true (length rs) 4096 few) (list_again reference_json (answered_reference_at client m) (IsReadable client) (reference_again client m) rs all)

@@ -1,0 +1,35 @@
+-- The answers of the discovery service as they are written: their members ascending by name.
+use Rattle.std.specs.Prelude.{◌≡◌, ◌<◌, ◌^◌, ℕ, List, Bool, true, Option, Some, None, IsTrue, bytes_eq, codes}
+use Rattle.serde_json.specs.Data.{Data, object, member, no_members}
+use Rattle.uss_intent.specs.declared.records.Reference.{Reference}
+use Rattle.uss_intent.specs.declared.records.Subscriber.{Subscriber}
+use Rattle.uss_intent.specs.Texts.{IsName, IsBase, IsOvn}
+use Rattle.uss_wire_base.specs.Instants.{is_instant}
+use Rattle.uss_wire_base.specs.Writing.{list_json}
+use Rattle.uss_wire_intent.specs.Writing.{reference_json, subscriber_json}
+
+unfoldable pub query_answer_json : List Reference → Data
+query_answer_json references = object (member (codes "operational_intent_references") (list_json reference_json references) no_members)
+
+unfoldable pub get_answer_json : Reference → Data
+get_answer_json reference = object (member (codes "operational_intent_reference") (reference_json reference) no_members)
+
+unfoldable pub change_answer_json : Reference → List Subscriber → Data
+change_answer_json reference subscribers =
+    object (member (codes "operational_intent_reference") (reference_json reference) (member (codes "subscribers") (list_json subscriber_json subscribers) no_members))
+
+-- an OVN as it is shown to this client: that of its own reference alone
+abbrev pub ShowsOvn : List ℕ → List ℕ → Option (List ℕ) → Type 0
+ShowsOvn client manager None = Unit {0}
+ShowsOvn client manager (Some ovn) = IsTrue (bytes_eq manager client) × IsOvn ovn
+
+-- a reference as a reader of this client's can give it
+pub record IsReadable (client : List ℕ) (r : Reference) : Type 0 where
+  pub flight : r.flight < 2 ^ 128
+  pub manager : IsName r.manager
+  pub version : r.version < 2 ^ 32
+  pub ovn : ShowsOvn client r.manager r.ovn
+  pub start : is_instant r.start ≡ true
+  pub end : is_instant r.end ≡ true
+  pub base : IsBase r.base
+  pub ticket : r.ticket < 2 ^ 128

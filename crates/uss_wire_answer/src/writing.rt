@@ -1,0 +1,80 @@
+ghost use Rattle.std.specs.Prelude.{◌≡◌, ◌≤◌, ℕ, List, length, Ok, IfOk};
+ghost use Rattle.serde_json.specs.View.{view};
+ghost use Rattle.uss_wire_base.specs.Writing.{IsTextOf, AllOf, list_json};
+ghost use Rattle.uss_intent.specs.declared.records.Reference.{Reference};
+ghost use Rattle.uss_wire_base.specs.declared.refusal.Member.{Member};
+ghost use Rattle.uss_wire_intent.specs.References.{answered_reference_at, references_at};
+ghost use Rattle.uss_wire_intent.specs.Writing.{reference_json};
+ghost use Rattle.uss_wire_answer.specs.Writing.{IsReadable};
+ghost use Rattle.uss_wire_answer.specs.Writing as spec;
+
+use serde_json::{Value, json};
+use std::alloc::{AllocError, Global};
+use uss_intent::{Owed, Reference, References};
+use uss_wire_base::{list, message};
+use uss_wire_intent::{ReferenceWriter, SubscriberWriter, reference_value};
+
+#[tactic(auto, unfolding(crate::specs::Writing::query_answer_json))]
+fn query_answer(alloc: Global, references: &References) -> Result<Value, AllocError>
+    ensures { IfOk result (λ v. view v ≡ spec.query_answer_json references.now) }
+{
+    let references = list(alloc, &ReferenceWriter, references.as_slice())?;
+    json!(in alloc; {"operational_intent_references": references})
+}
+
+/// The bytes of the references that a query found.
+pub fn write_query_answer(alloc: Global, references: &References) -> Result<Vec<u8>, AllocError>
+    ensures { IfOk result (λ b. IsTextOf (spec.query_answer_json references.now) b.items) }
+{
+    let value = query_answer(alloc, references)?;
+    message(alloc, &value)
+}
+
+#[tactic(auto, unfolding(crate::specs::Writing::get_answer_json))]
+fn get_answer(alloc: Global, reference: &Reference) -> Result<Value, AllocError>
+    ensures { IfOk result (λ v. view v ≡ spec.get_answer_json reference.now) }
+{
+    let reference = reference_value(alloc, reference)?;
+    json!(in alloc; {"operational_intent_reference": reference})
+}
+
+/// The bytes of one reference.
+pub fn write_get_answer(alloc: Global, reference: &Reference) -> Result<Vec<u8>, AllocError>
+    ensures { IfOk result (λ b. IsTextOf (spec.get_answer_json reference.now) b.items) }
+{
+    let value = get_answer(alloc, reference)?;
+    message(alloc, &value)
+}
+
+#[tactic(auto, unfolding(crate::specs::Writing::change_answer_json))]
+fn change_answer(
+    alloc: Global,
+    reference: &Reference,
+    subscribers: &Owed,
+) -> Result<Value, AllocError>
+    ensures { IfOk result (λ v. view v ≡ spec.change_answer_json reference.now subscribers.now) }
+{
+    let reference = reference_value(alloc, reference)?;
+    let subscribers = list(alloc, &SubscriberWriter, subscribers.as_slice())?;
+    json!(in alloc; {"operational_intent_reference": reference, "subscribers": subscribers})
+}
+
+/// The bytes of a reference as it is recorded, and of those that are to be told, each with one subscription.
+pub fn write_change_answer(
+    alloc: Global,
+    reference: &Reference,
+    subscribers: &Owed,
+) -> Result<Vec<u8>, AllocError>
+    ensures { IfOk result (λ b. IsTextOf (spec.change_answer_json reference.now subscribers.now) b.items) }
+{
+    let value = change_answer(alloc, reference, subscribers)?;
+    message(alloc, &value)
+}
+
+/// A reference that is written is read again as the same by the client that it was shown to, and so is a list of at most 4,096. The
+/// function does nothing.
+pub fn references_are_read_again()
+    ensures one { (client : List ℕ) (place : Member) (r : Reference) → IsReadable client r → answered_reference_at client place (reference_json r) ≡ Ok r }
+    ensures list { (client : List ℕ) (place : Member) (rs : List Reference) → AllOf (IsReadable client) rs → length rs ≤ 4096
+        → references_at client place (list_json reference_json rs) ≡ Ok rs }
+{}
