@@ -6,9 +6,10 @@ use Rattle.uss_event.specs.declared.entries.Entry.TheVariants as Enters
 use Rattle.uss_law_book.specs.Coding.{IsOwner, journal_length}
 use Rattle.uss_law_book.specs.Reserve.{need, reserved}
 use Rattle.uss_law_book.specs.Legal.{MayFollow, IsLegal}
-use Rattle.uss_law_duty.specs.Worked.{owner, done, end_done, keyed_book, cancelled_book, ending_book}
+use Rattle.uss_law_duty.specs.Worked.{owner, done, end_done, keyed_book, cancelled_book, ending_book, owing_book, notified}
 use Rattle.uss_law_duty.proofs.Worked.{opens, heard_open_follows, pending_follows, recorded_follows, cancelling_follows, done_follows, room_before}
 use Rattle.uss_law_duty.proofs.Further.{keyed_follows, end_follows, end_done_follows}
+use Rattle.uss_law_duty.proofs.Others.{owing_follows, notified_follows}
 
 base_is : is_base owner.base ≡ true
 unfolding url_on_literals
@@ -32,3 +33,6 @@ ended_is_legal = (owner_follows, (opens, (heard_open_follows, (pending_follows, 
 
 pub keyed_is_legal : IsLegal keyed_book
 keyed_is_legal = (owner_follows, (opens, (heard_open_follows, (keyed_follows, tt))))
+
+pub notified_is_legal : IsLegal (owing_book ++ notified ∷ [])
+notified_is_legal = (owner_follows, (opens, (heard_open_follows, (pending_follows, (owing_follows, (notified_follows, tt))))))

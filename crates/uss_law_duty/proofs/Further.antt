@@ -153,7 +153,7 @@ served =
     }
 
 -- the pair that is held is said
-is_held_now : held 1 held_book ≡ Some held_pair
+pub is_held_now : held 1 held_book ≡ Some held_pair
 unfolding held holding holdings_of has_ended is_job_of opening_of attempt_of trial_of
 is_held_now = refl
 

@@ -2,3 +2,4 @@ pub mod Worked
 pub mod Further
 pub mod Books
 pub mod Stays
+pub mod Others

@@ -160,7 +160,7 @@ pub room_ticket : reserved (ticket_book) ≤ 536870912
 unfolding reserved need journal_length opening_of is_held is_done is_ticket_open is_ticket_gone decision_of untold owed_of holding_of ending_of is_told
 room_ticket = omega arith
 
-room_tried : reserved (tried_book) ≤ 536870912
+pub room_tried : reserved (tried_book) ≤ 536870912
 unfolding reserved need journal_length opening_of is_held is_done is_ticket_open is_ticket_gone decision_of untold owed_of holding_of ending_of is_told
 room_tried = omega arith
 

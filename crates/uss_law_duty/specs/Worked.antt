@@ -5,6 +5,7 @@ use Rattle.uss_vol4.specs.Volume.{Volume4D}
 use Rattle.uss_intent.specs.Identifiers.{flight_number, ticket_number}
 use Rattle.uss_intent.specs.declared.records.Reference.{Reference}
 use Rattle.uss_intent.specs.declared.records.Ticket.{Ticket}
+use Rattle.uss_intent.specs.declared.records.Subscriber.{Subscriber}
 use Rattle.uss_intent.specs.declared.records.State.TheVariants.{Accepted}
 use Rattle.uss_intent.specs.declared.calls.DssAsk.{DssAsk}
 use Rattle.uss_intent.specs.declared.calls.DssAsk.TheVariants as Asks
@@ -12,6 +13,7 @@ use Rattle.uss_intent.specs.declared.calls.DssReply.{DssReply}
 use Rattle.uss_intent.specs.declared.calls.DssReply.TheVariants as Replies
 use Rattle.uss_intent.specs.declared.calls.DssRefusal.TheVariants as Refuses
 use Rattle.uss_event.specs.declared.asks.FlightAsk.{FlightAsk}
+use Rattle.uss_event.specs.declared.asks.PositionAsk.{PositionAsk}
 use Rattle.uss_event.specs.declared.asks.Wish.TheVariants as Wishes
 use Rattle.uss_event.specs.declared.details.Proposal.{Proposal}
 use Rattle.uss_event.specs.declared.entries.Owner.{Owner}
@@ -21,6 +23,7 @@ use Rattle.uss_event.specs.declared.entries.Entry.TheVariants as Enters
 use Rattle.uss_event.specs.declared.calls.Outgoing.{Outgoing}
 use Rattle.uss_event.specs.declared.calls.Outgoing.TheVariants as Goes
 use Rattle.uss_event.specs.Pairs.{OperationalIntent}
+use Rattle.uss_event.specs.declared.calls.Note.{Note}
 use Rattle.uss_event.specs.declared.calls.PeerCall.{PeerCall}
 use Rattle.uss_event.specs.declared.calls.PeerCall.TheVariants as Calls
 use Rattle.uss_law_book.specs.Attempts.{attempted, recorded_as}
@@ -212,3 +215,40 @@ end_replied call reply = Comes.Dss (record { job = 2; ask = call }) reply
 
 abbrev pub end_done : Entry
 end_done = Enters.Done 2 (Ends.Ended [])
+
+-- the same record, of which another supplier is to be told
+abbrev pub subscriber : Subscriber
+subscriber = record { base = codes "http://uss2.test"; ticket = ticket_number 2 1; index = 1 }
+
+abbrev pub owing : Entry
+owing = Enters.Held 1 1 ovn 1 (subscriber ∷ [])
+
+abbrev pub owing_book : List Entry
+owing_book = tried_book ++ owing ∷ []
+
+abbrev pub note : Note
+note = record { flight = flight; pair = Some held_pair; ticket = ticket_number 2 1; index = 1 }
+
+abbrev pub notify : PeerCall
+notify = Calls.Notify 1 0 (codes "http://uss2.test") note
+
+abbrev pub notified : Entry
+notified = Enters.Sent 1 0
+
+-- another supplier tells of its flight, and that it has ended
+abbrev pub note_of_other : Note
+note_of_other = record { flight = flight_number 2 1; pair = Some other_pair; ticket = ticket; index = 1 }
+
+abbrev pub note_of_end : Note
+note_of_end = record { flight = flight_number 2 1; pair = None; ticket = ticket; index = 2 }
+
+-- 23:30:00
+abbrev pub under_way : ℤ
+under_way = pos 1700004600000000000
+
+-- the flight is at the volume's first corner, 500 mm up, and then 500 mm above it
+abbrev pub inside : PositionAsk
+inside = record { flight = 1; number = 2; place = record { x = pos 0; y = pos 0 }; altitude = pos 500; off_nominal = [] }
+
+abbrev pub above_it : PositionAsk
+above_it = record { flight = 1; number = 2; place = record { x = pos 0; y = pos 0 }; altitude = pos 1500; off_nominal = [] }

@@ -11,15 +11,18 @@ ghost use Rattle.uss_event.specs.declared.events.Said.TheVariants as Says;
 ghost use Rattle.uss_event.specs.declared.events.Event.TheVariants as Comes;
 ghost use Rattle.uss_intent.specs.declared.calls.DssReply.TheVariants as Replies;
 ghost use Rattle.uss_event.specs.declared.calls.PeerReply.TheVariants as Peers;
+ghost use Rattle.uss_event.specs.declared.calls.Outgoing.TheVariants as Goes;
+ghost use Rattle.uss_event.specs.declared.asks.Conform.TheVariants as Finds;
+ghost use Rattle.uss_event.specs.declared.asks.AskRefusal.TheVariants as Refuses;
 ghost use Rattle.uss_law_book.specs.Legal.{IsLegal};
 ghost use Rattle.uss_event.specs.declared.entries.Entry.{Entry};
 ghost use Rattle.uss_event.specs.declared.calls.Outgoing.{Outgoing};
 ghost use Rattle.uss_event.specs.declared.events.Said.{Said};
 ghost use Rattle.uss_event.specs.declared.events.Event.{Event};
 ghost use Rattle.uss_law_duty.specs.Heard.{News};
-ghost use Rattle.uss_law_duty.specs.Heard.News.{Heard};
+ghost use Rattle.uss_law_duty.specs.Heard.News.{Heard, Forgotten};
 ghost use Rattle.uss_law_duty.specs.Duties.{book_after, MayStep};
-ghost use Rattle.uss_law_duty.specs.Worked.{flight, held_book, other_pair, keyed, keyed_put, keyed_book, details_of_other, held_pair, end_ask, end_opened, ending_book, remove, end_sends, end_replied, end_done, now, ask, opened, heard_open, pending, recorded, cancelling, done, new_book, asked_book, ticket_book, tried_book, cancelled_book, sends, replied, ticket_put, query, put, get, ticket_remove, the_ticket, the_reference, planned, missing, exists};
+ghost use Rattle.uss_law_duty.specs.Worked.{flight, held_book, other_pair, keyed, keyed_put, keyed_book, details_of_other, held_pair, end_ask, end_opened, ending_book, remove, end_sends, end_replied, end_done, owing_book, notify, notified, note_of_other, note_of_end, under_way, inside, above_it, now, ask, opened, heard_open, pending, recorded, cancelling, done, new_book, asked_book, ticket_book, tried_book, cancelled_book, sends, replied, ticket_put, query, put, get, ticket_remove, the_ticket, the_reference, planned, missing, exists};
 
 /// A supplier may plan a flight: it opens a job for the request and asks for its ticket, asks what is there once it has the ticket,
 /// makes an attempt where nothing is there, and enters what landed as held.
@@ -52,12 +55,33 @@ pub fn a_job_may_be_cancelled()
     ensures cancelled { MayStep cancelled_book [] now (replied ticket_remove (Replies.TicketRemoved the_ticket)) (Some done) [] (Says.Answer Answers.Cancelled) [] }
 {}
 
+/// A supplier may find that a flight is where its plan says, or that it isn't.
+pub fn a_position_may_be_judged()
+    ensures conforms { MayStep held_book [] under_way (Comes.Position inside) None [] (Says.Answer (Answers.Steady Finds.Conforming)) [] }
+    ensures strays { MayStep held_book [] under_way (Comes.Position above_it) None [] (Says.Answer (Answers.Steady Finds.Nonconforming)) [] }
+    ensures old { MayStep held_book [] now (Comes.Position inside) None [] (Says.Refused (Refuses.OldPosition under_way)) [] }
+{}
+
+/// A supplier may tell another what it owes it, and enter that it was told; and it may hear of another's flight and of its end.
+pub fn changes_may_be_told()
+    ensures tells { MayStep owing_book [] now (Comes.Sweep 0) None (Goes.Peer notify ∷ []) Says.Nothing [] }
+    ensures told { MayStep owing_book [] now (Comes.Peer notify Peers.Noted) (Some notified) [] Says.Nothing [] }
+    ensures hears { MayStep tried_book [] now (Comes.Notified (codes "uss2") note_of_other) None [] Says.Noted (Heard other_pair ∷ []) }
+    ensures forgets { MayStep tried_book (Heard other_pair ∷ []) now (Comes.Notified (codes "uss2") note_of_end) None [] Says.Noted (Heard other_pair ∷ Forgotten other_pair.reference.flight ∷ []) }
+{}
+
+/// A supplier may say that a call failed, and which attempts of its job may still be recorded.
+pub fn a_call_may_fail()
+    ensures { MayStep tried_book [] now (Comes.Failed 1) None [] (Says.Left (1 ∷ [])) [] }
+{}
+
 /// The books of the worked steps are legal, from the owner's entry on: a flight that is planned and then ended, a request that is
-/// cancelled, and an attempt with a key.
+/// cancelled, an attempt with a key, and a record of which another supplier was told.
 pub fn the_worked_books_are_legal()
     ensures ended { IsLegal (ending_book ++ end_done ∷ []) }
     ensures cancelled { IsLegal (cancelled_book ++ done ∷ []) }
     ensures keyed { IsLegal keyed_book }
+    ensures notified { IsLegal (owing_book ++ notified ∷ []) }
 {}
 
 /// A legal book is still legal after a step that is allowed.

@@ -9,3 +9,6 @@ returns-clause-ended c = Books.ended_is_legal
 
 pub returns-clause-keyed : goal.returns-clause-keyed
 returns-clause-keyed c = Books.keyed_is_legal
+
+pub returns-clause-notified : goal.returns-clause-notified
+returns-clause-notified c = Books.notified_is_legal
