@@ -1,5 +1,5 @@
 -- The whole test of an entry says the same as the law of the book.
-use Rattle.std.proofs.Common.{ℕ, Bool, true, false, cond, not, ◌&&◌, List, ◌≡◌, refl}
+use Rattle.std.proofs.Common.{Bool, true, false, cond, not, List, ◌≡◌, refl}
 use Rattle.std.proofs.lemmas.Bool.{and_parts, and_from}
 use Rattle.uss_event.specs.declared.entries.Entry.{Entry}
 use Rattle.uss_event.specs.declared.entries.Entry.TheVariants.{Opened, TicketOpen, Pending, Held, Deciding, Done, TicketGone, Sent}

@@ -1,5 +1,5 @@
 -- That the test of how a job may end says the same as the fact, and that the comparison of endings decides whether they are the same.
-use Rattle.std.proofs.Common.{ℕ, ◌==◌, Bool, true, false, not, ◌||◌, ◌&&◌, List, [], ◌≡◌, ◌⊎◌, inl, inr, length, refl, ap, ◌∙◌, subst, Option, Some, None}
+use Rattle.std.proofs.Common.{ℕ, ◌==◌, Bool, true, false, not, ◌||◌, ◌&&◌, List, ◌≡◌, ◌⊎◌, inl, inr, length, refl, ap, ◌∙◌, subst, Option, Some, None}
 use Rattle.std.specs.Bool.{Decides}
 use Rattle.std.specs.Cmp.{unsigned_Decides}
 use Rattle.std.specs.Cmp.Lexicographic.{pointwise, pointwise_decides}

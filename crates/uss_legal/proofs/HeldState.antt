@@ -1,5 +1,5 @@
 -- The state of what is held of a flight is that of the wish for which the attempt that was recorded last was made.
-use Rattle.std.proofs.Common.{ℕ, ◌<◌, ◌≤◌, Bool, true, false, cond, List, ◌≡◌, ◌⊎◌, inl, inr, length, get_or, refl, ap, sym, ◌∙◌, Option, Some, None}
+use Rattle.std.proofs.Common.{ℕ, ◌<◌, ◌≤◌, Bool, cond, List, ◌≡◌, ◌⊎◌, inl, inr, length, get_or, refl, ap, sym, ◌∙◌, Option, Some, None}
 use Rattle.std.specs.Prelude.{nat_lt}
 use Rattle.std.specs.List.{slice_get}
 use Rattle.std.specs.Option.{option_map}
@@ -15,7 +15,7 @@ use Rattle.uss_event.specs.declared.entries.Entry.{Entry}
 use Rattle.uss_law_book.specs.Lists.{Opening, Trial, Holding, owner_of}
 use Rattle.uss_law_book.specs.Readings.{opening_of, trial_of, holding}
 use Rattle.uss_law_book.specs.Attempts.{Attempted, attempted, by_wish, by_opening, by_trial, attempt_of, recorded_as, held_by, held, held_state}
-use Rattle.uss_legal.specs.States.{state_by_wish, state_by_opening, state_by_owner, state_by_trial, state_by_holding}
+use Rattle.uss_legal.specs.States.{state_by_wish, state_by_owner, state_by_trial, state_by_holding}
 
 -- what doesn't depend on the item is said of a place that is there, and of no other
 at_place : {X Y : Type 0} (f : Option X → Option Y) (y : Y) → f None ≡ None → ((x : X) → f (Some x) ≡ Some y) → (xs : List X) (i : ℕ) → f (slice_get xs i) ≡ cond (nat_lt i (length xs)) (Some y) None

@@ -126,6 +126,13 @@ fn whole_book(alloc: Global) -> Result<Vec<Entry>, Fail> {
     Ok(book)
 }
 
+/// These entries alone, or all where there are fewer.
+fn part(entries: &[Entry], start: usize, end: usize) -> Plain<'_> {
+    Plain {
+        entries: entries.get(start..end).unwrap_or(entries),
+    }
+}
+
 #[test]
 fn each_entry_is_due_at_its_place_and_at_no_other(rt: HostRuntime) -> Result<(), Fail> {
     let whole = whole_book(rt.alloc())?;
@@ -146,23 +153,17 @@ fn a_job_goes_its_way(rt: HostRuntime) -> Result<(), Fail> {
     let alloc = rt.alloc();
     let none = Sequence::new(alloc);
     let whole = whole_book(alloc)?;
-    let opened = Plain {
-        entries: &whole[..2],
-    };
+    let opened = part(&whole, 0, 2);
     assert!(rt; may_open_ticket(&opened, 1));
     assert!(rt; !may_open_ticket(&opened, 2));
     assert!(rt; !may_try(&opened, 1, 1, 0, &None, &none));
     assert!(rt; may_end(&opened, 1, &Ending::Cancelled));
     assert!(rt; !may_end(&opened, 1, &stale(alloc)));
-    let heard = Plain {
-        entries: &whole[..3],
-    };
+    let heard = part(&whole, 0, 3);
     assert!(rt; may_try(&heard, 1, 1, 0, &None, &none));
     assert!(rt; !may_try(&heard, 1, 2, 0, &None, &none));
     assert!(rt; !may_try(&heard, 1, 1, 1, &None, &none));
-    let tried = Plain {
-        entries: &whole[..4],
-    };
+    let tried = part(&whole, 0, 4);
     assert!(rt; may_hold(&tried, 1, 1));
     assert!(rt; !may_hold(&tried, 1, 2));
     assert!(rt; may_decide(&tried, 1, &Ending::Cancelled));
@@ -175,9 +176,7 @@ fn a_job_goes_its_way(rt: HostRuntime) -> Result<(), Fail> {
 fn a_closed_job_keeps_its_ticket_while_it_is_needed(rt: HostRuntime) -> Result<(), Fail> {
     let alloc = rt.alloc();
     let whole = whole_book(alloc)?;
-    let recorded = Plain {
-        entries: &whole[..5],
-    };
+    let recorded = part(&whole, 0, 5);
     assert!(rt; !may_retire(&recorded, 1));
     assert!(rt; may_tell(&recorded, 1, 0));
     assert!(rt; !may_tell(&recorded, 1, 1));
@@ -197,19 +196,13 @@ fn a_flight_is_asked_for_again_once_its_job_is_closed(rt: HostRuntime) -> Result
         number,
         wish: Wish::End,
     };
-    let open = Plain {
-        entries: &whole[..4],
-    };
+    let open = part(&whole, 0, 4);
     assert!(rt; !may_open(&open, 2, &ask(4)));
-    let recorded = Plain {
-        entries: &whole[..5],
-    };
+    let recorded = part(&whole, 0, 5);
     assert!(rt; may_open(&recorded, 2, &ask(4)));
     assert!(rt; !may_open(&recorded, 2, &ask(3)));
     assert!(rt; !may_open(&recorded, 3, &ask(4)));
-    let unowned = Plain {
-        entries: &whole[1..5],
-    };
+    let unowned = part(&whole, 1, 5);
     assert!(rt; !may_open(&unowned, 2, &ask(4)));
     let ended = Plain { entries: &whole };
     assert!(rt; !may_open(&ended, 4, &ask(6)));
