@@ -4,3 +4,5 @@
 
 mod firsts;
 mod marks;
+mod tallies;
+mod tally;
