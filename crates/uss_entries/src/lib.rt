@@ -3,6 +3,8 @@
 #![tactic(auto)]
 
 mod firsts;
+mod flight;
+mod flights;
 mod marks;
 mod tallies;
 mod tally;
