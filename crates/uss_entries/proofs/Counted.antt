@@ -1,5 +1,5 @@
 -- What is counted of each job, as entries come.
-use Rattle.std.proofs.Common.{ℕ, ◌+◌, ◌==◌, Bool, true, false, cond, List, [], ◌∷◌, ◌++◌, ◌≡◌, length, filter, length-append, append-nil, refl, ap, sym, subst, ◌∙◌, arith, Option, Some, None}
+use Rattle.std.proofs.Common.{ℕ, ◌+◌, ◌*◌, ◌≤◌, ◌==◌, Bool, true, false, cond, List, [], ◌∷◌, ◌++◌, ◌≡◌, length, filter, length-append, append-nil, refl, ap, sym, subst, ◌∙◌, arith, Option, Some, None}
 use Rattle.std.specs.Prelude.{sum_by}
 use Rattle.std.specs.Ordering.{nat_cmp}
 use Rattle.std.specs.Cmp.{unsigned_ties}
@@ -49,9 +49,9 @@ not_tried job (Enters.Pending j tag alternative previous key) h = rw h refl
 not_tried job _ h = refl
 
 pub counted : (old new : BTreeMap ℕ Tally) (es : List Entry) (e : Entry) (t u : Tally) → AreTallies old es → tree.get nat_cmp old (job_of e) ≡ Some t → u.attempts ≡ t.attempts + length (trials_of (job_of e) (e ∷ []))
-    → u.bytes ≡ t.bytes + sum_by record_length (filter (is_later_of (job_of e)) (e ∷ []))
+    → u.bytes ≡ t.bytes + sum_by record_length (filter (is_later_of (job_of e)) (e ∷ [])) → u.bytes ≤ t.bytes + 2085482354
     → ((q : ℕ) → tree.get nat_cmp new q ≡ cond (is_at (nat_cmp (job_of e)) q) (Some u) (tree.get nat_cmp old q)) → AreTallies new (es ++ e ∷ [])
-counted old new es e t u are here attempts bytes put = λ job. go job (job_of e == job) refl
+counted old new es e t u are here attempts bytes small put = λ job. go job (job_of e == job) refl
   where
     got : (job : ℕ) (b : Bool) → (job_of e == job) ≡ b → tree.get nat_cmp new job ≡ cond b (Some u) (tree.get nat_cmp old job)
     got job b h = put job ∙ ap (λ x. cond x (Some u) (tree.get nat_cmp old job)) (sym (unsigned_ties (job_of e) job) ∙ h)
@@ -62,6 +62,7 @@ counted old new es e t u are here attempts bytes put = λ job. go job (job_of e 
         record {
           attempts = attempts ∙ ap (λ n. n + length (trials_of (job_of e) (e ∷ []))) was.attempts ∙ sym (attempts_grow (job_of e) es e);
           bytes = bytes ∙ ap (λ n. n + sum_by record_length (filter (is_later_of (job_of e)) (e ∷ []))) was.bytes ∙ sym (bytes_grow (job_of e) es e);
+          small = (let l = length-append es (e ∷ []) in let w = was.small in omega (arith, l, w, small));
         }
 
     at_other : (job : ℕ) → (job_of e == job) ≡ false → IsTally (es ++ e ∷ []) job (tree.get nat_cmp old job)
@@ -71,7 +72,7 @@ counted old new es e t u are here attempts bytes put = λ job. go job (job_of e 
         let c = not_tried job e h in
         let d = not_later job e h in
         let was = are job in
-        record { attempts = was.attempts ∙ omega (arith, a, c); bytes = was.bytes ∙ omega (arith, b, d) }
+        record { attempts = was.attempts ∙ omega (arith, a, c); bytes = was.bytes ∙ omega (arith, b, d); small = (let l = length-append es (e ∷ []) in let w = was.small in omega (arith, l, w)) }
 
     go : (job : ℕ) (b : Bool) → (job_of e == job) ≡ b → IsTally (es ++ e ∷ []) job (tree.get nat_cmp new job)
     go job true h =
@@ -80,12 +81,12 @@ counted old new es e t u are here attempts bytes put = λ job. go job (job_of e 
 
 pub none_counted : (m : BTreeMap ℕ Tally) → m.entries ≡ [] → AreTallies m []
 unfolding trials_of bytes_of
-none_counted m none = λ job. rw none (record { attempts = refl; bytes = refl })
+none_counted m none = λ job. rw none (record { attempts = refl; bytes = refl; small = omega arith })
 
 -- the same, by the job's number
 pub counted_at : (old new : BTreeMap ℕ Tally) (es : List Entry) (e : Entry) (job : ℕ) (t u : Tally) → job ≡ job_of e → AreTallies old es → tree.get nat_cmp old job ≡ Some t
-    → u.attempts ≡ t.attempts + length (trials_of (job_of e) (e ∷ [])) → u.bytes ≡ t.bytes + sum_by record_length (filter (is_later_of (job_of e)) (e ∷ []))
+    → u.attempts ≡ t.attempts + length (trials_of (job_of e) (e ∷ [])) → u.bytes ≡ t.bytes + sum_by record_length (filter (is_later_of (job_of e)) (e ∷ [])) → u.bytes ≤ t.bytes + 2085482354
     → ((q : ℕ) → tree.get nat_cmp new q ≡ cond (is_at (nat_cmp job) q) (Some u) (tree.get nat_cmp old q)) → AreTallies new (es ++ e ∷ [])
-counted_at old new es e job t u of are here attempts bytes put =
-    counted old new es e t u are (subst (λ j. tree.get nat_cmp old j ≡ Some t) of here) attempts bytes
+counted_at old new es e job t u of are here attempts bytes small put =
+    counted old new es e t u are (subst (λ j. tree.get nat_cmp old j ≡ Some t) of here) attempts bytes small
     (λ q. subst (λ j. tree.get nat_cmp new q ≡ cond (is_at (nat_cmp j) q) (Some u) (tree.get nat_cmp old q)) of (put q))

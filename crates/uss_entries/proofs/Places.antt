@@ -63,3 +63,8 @@ first_comes p es e none like = (got_last es e ∙ sym (found_now p es e none lik
 pub done : {A B P Q : Type 0} (r : Result A B) → OnOk r P → OnErr r Q → (Q → ⊥) → P
 done (Ok a) p q n = p
 done (Err b) p q n = absurd (n q)
+
+-- what follows where a call succeeded
+pub on_ok : {A B P Q : Type 0} (r : Result A B) → OnOk r P → (P → Q) → OnOk r Q
+on_ok (Ok a) p f = f p
+on_ok (Err b) p f = tt

@@ -51,3 +51,7 @@ flight_after f _ n = f
 
 abbrev pub has_row : BTreeMap ℕ Flight → ℕ → Bool
 has_row flights flight = is_some (get nat_cmp flights flight)
+
+abbrev pub has_row_for : BTreeMap ℕ Flight → Option ℕ → Bool
+has_row_for flights None = true
+has_row_for flights (Some flight) = has_row flights flight

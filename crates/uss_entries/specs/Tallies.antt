@@ -1,5 +1,5 @@
 -- What is counted of each job. This project's own.
-use Rattle.std.specs.Prelude.{ℕ, ◌+◌, ◌<◌, ◌^◌, ◌≡◌, Bool, false, ◌==◌, List, length, filter, sum_by, Option, Some, None, is_some}
+use Rattle.std.specs.Prelude.{ℕ, ◌+◌, ◌*◌, ◌<◌, ◌≤◌, ◌^◌, ◌≡◌, Bool, false, ◌==◌, List, [], ◌∷◌, length, filter, sum_by, Option, Some, None, is_some}
 use Rattle.std.specs.BTreeMap.{BTreeMap, get}
 use Rattle.std.specs.Ordering.{nat_cmp}
 use Rattle.uss_event.specs.declared.entries.Entry.{Entry}
@@ -7,6 +7,7 @@ use Rattle.uss_event.specs.declared.entries.Entry.TheVariants.{Opened, TicketOpe
 use Rattle.uss_event.specs.declared.entries.Entry.TheVariants as Enters
 use Rattle.uss_law_book.specs.Readings.{trials_of}
 use Rattle.uss_law_book.specs.Coding.{record_length}
+use Rattle.uss_legal.specs.Speaks.{job_of}
 use Rattle.uss_entries.specs.declared.tally.Tally.{Tally}
 
 -- the entry is one of the job's after its opening
@@ -37,6 +38,8 @@ bytes_in (Some t) = t.bytes
 pub record IsTally (es : List Entry) (job : ℕ) (tally : Option Tally) : Type 0 where
   pub attempts : attempts_in tally ≡ length (trials_of job es)
   pub bytes : bytes_in tally ≡ bytes_of job es
+  -- no record has more bytes
+  pub small : bytes_in tally ≤ 2085482354 * length es
 
 abbrev pub AreTallies : BTreeMap ℕ Tally → List Entry → Type 0
 AreTallies tallies es = (job : ℕ) → IsTally es job (get nat_cmp tallies job)
@@ -45,6 +48,6 @@ abbrev pub has_tally : BTreeMap ℕ Tally → ℕ → Bool
 has_tally tallies job = is_some (get nat_cmp tallies job)
 
 -- one more entry can be counted
-pub record CanGrow (tally : Option Tally) : Type 0 where
-  pub attempts : attempts_in tally + 1 < 2 ^ 64
+pub record CanGrow (tally : Option Tally) (e : Entry) : Type 0 where
+  pub attempts : attempts_in tally + length (trials_of (job_of e) (e ∷ [])) < 2 ^ 64
   pub bytes : bytes_in tally + 2 ^ 32 < 2 ^ 128

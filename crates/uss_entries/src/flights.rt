@@ -1,9 +1,9 @@
-ghost use Rattle.std.specs.Prelude.{◌≡◌, ◌++◌, ◌∷◌, [], List, length, Some, IsTrue, OnOk};
+ghost use Rattle.std.specs.Prelude.{◌≡◌, ◌++◌, ◌∷◌, [], List, length, IsTrue, OnOk};
 ghost use Rattle.uss_event.specs.declared.entries.Entry.{Entry};
 ghost use Rattle.uss_law_book.specs.Readings.{is_ended};
 ghost use Rattle.uss_law_book.specs.Legal.{IsDue};
 ghost use Rattle.uss_law_book.specs.Orderly.{IsOrderly};
-ghost use Rattle.uss_entries.specs.Flights.{AreFlights, IsFlight, flight_in, flight_after, has_row};
+ghost use Rattle.uss_entries.specs.Flights.{AreFlights, IsFlight, flight_in, flight_after, has_row_for};
 
 use crate::flight::Flight;
 use std::alloc::{AllocError, Global};
@@ -61,10 +61,13 @@ impl Flights {
     }
 
     /// Makes room for what is kept of this flight.
-    pub(crate) fn make_room(&mut self, flight: u64) -> Result<(), AllocError>
+    pub(crate) fn make_room(&mut self, flight: Option<u64>) -> Result<(), AllocError>
         ensures kept { (es : List Entry) → AreFlights self.old.flights es → AreFlights self.new.flights es }
-        ensures room { OnOk result (IsTrue (has_row self.new.flights flight)) }
+        ensures room { OnOk result (IsTrue (has_row_for self.new.flights flight)) }
     {
+        let Some(flight) = flight else {
+            return Ok(());
+        };
         if self.flights.contains_key(&flight) {
             return Ok(());
         }
@@ -80,15 +83,18 @@ impl Flights {
     }
 
     /// Takes an entry down that changes what is kept of this flight, and that comes at this place. Takes no memory.
-    pub(crate) fn enter(&mut self, flight: u64, e: &Entry, place: usize)
-        requires { IsTrue (has_row self.old.flights flight) }
-        ensures { (es : List Entry) → AreFlights self.old.flights es → IsOrderly es → IsDue es e.now → flight_in es e.now ≡ Some flight → length es ≡ place → AreFlights self.new.flights (es ++ e.now ∷ []) }
+    pub(crate) fn enter(&mut self, flight: Option<u64>, e: &Entry, place: usize)
+        requires { IsTrue (has_row_for self.old.flights flight) }
+        ensures { (es : List Entry) → AreFlights self.old.flights es → IsOrderly es → IsDue es e.now → flight_in es e.now ≡ flight → length es ≡ place → AreFlights self.new.flights (es ++ e.now ∷ []) }
     {
-        match self.flights.get(&flight) {
-            Some(row) => {
-                let more = after(*row, e, place);
-                let _ = self.flights.insert(flight, more);
-            }
+        match flight {
+            Some(flight) => match self.flights.get(&flight) {
+                Some(row) => {
+                    let more = after(*row, e, place);
+                    let _ = self.flights.insert(flight, more);
+                }
+                None => {}
+            },
             None => {}
         }
     }

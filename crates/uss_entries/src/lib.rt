@@ -2,9 +2,16 @@
 //! entries.
 #![tactic(auto)]
 
+mod entries;
 mod firsts;
 mod flight;
 mod flights;
+mod index;
+mod indexed;
 mod marks;
+mod room;
 mod tallies;
 mod tally;
+mod tells;
+
+pub use entries::Entries;

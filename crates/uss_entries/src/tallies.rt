@@ -106,7 +106,7 @@ impl Tallies {
     pub(crate) fn enter(&mut self, e: &Entry)
         requires coding { HasCoding e.now }
         requires room { IsTrue (has_tally self.old.tallies (job_of e.now)) }
-        requires fits { CanGrow (get nat_cmp self.old.tallies (job_of e.now)) }
+        requires fits { CanGrow (get nat_cmp self.old.tallies (job_of e.now)) e.now }
         ensures { (es : List Entry) → AreTallies self.old.tallies es → AreTallies self.new.tallies (es ++ e.now ∷ []) }
     {
         let job = job_of(e);

@@ -1,0 +1,106 @@
+ghost use Rattle.std.specs.Prelude.{◌≡◌, ◌<◌, ◌++◌, ◌∷◌, [], length, slice_get, vec_len, vec_capacity, option_copied, OnOk};
+ghost use Rattle.uss_law_book.specs.Legal.{MayFollow};
+ghost use Rattle.uss_entries.specs.Known.{IsReadyFor};
+
+use crate::index::Index;
+use crate::indexed::room_for;
+use crate::room::Room;
+use std::alloc::{AllocError, Global};
+use std::marker::Model;
+use uss_event::Entry;
+
+/// The entries of a supplier's book, which are a legal book, with an index over them. A contract sees the entries, the oldest first,
+/// and for which further ones there is room.
+#[derive(Drop)]
+pub struct Entries {
+    pub(crate) entries: Vec<Entry>,
+    pub(crate) index: Index,
+    /// For what room was made, until an entry comes.
+    ready: Option<Room>,
+}
+
+impl Model for Entries {
+    ghost use Rattle.std.specs.Prelude.{vec_len, vec_capacity};
+    ghost use Rattle.uss_entries.specs.Known.{Known};
+    ghost use Rattle.uss_entries.specs.Kept.{IsKept};
+
+    ghost Value = { Known };
+
+    ghost view = { λ s. record { entries = s.entries.items; ready = s.ready } };
+
+    ghost invariant = { λ s. IsKept s.entries.items (vec_len s.entries) (vec_capacity s.entries) s.index s.ready };
+}
+
+fn count(entries: &[Entry]) -> usize
+    ensures { result ≡ length entries.now }
+{
+    entries.len()
+}
+
+fn put(entries: &mut Vec<Entry>, e: Entry)
+    requires { vec_len entries.old < vec_capacity entries.old }
+    ensures { entries.new.items ≡ entries.old.items ++ e ∷ [] }
+{
+    let _ = entries.push(e);
+}
+
+impl Entries {
+    /// No entry. Takes no memory.
+    pub fn new(alloc: Global) -> Entries
+        ensures { result.entries ≡ [] }
+    {
+        Entries {
+            entries: Vec::new(alloc),
+            index: Index::new(alloc),
+            ready: None,
+        }
+    }
+
+    /// How many entries there are.
+    pub fn len(&self) -> usize
+        ensures { result ≡ length self.now.entries }
+    {
+        self.entries.as_slice().len()
+    }
+
+    /// The entries, the oldest first.
+    pub fn as_slice(&self) -> &[Entry]
+        ensures { result.now ≡ self.now.entries }
+    {
+        self.entries.as_slice()
+    }
+
+    /// The entry with this number, from 0.
+    pub fn entry(&self, n: usize) -> Option<&Entry>
+        ensures { option_copied result ≡ slice_get self.now.entries n }
+    {
+        self.entries.as_slice().get(n)
+    }
+
+    /// Makes room for a further entry, so that entering it takes no memory. The entries stay.
+    pub fn make_room(&mut self, e: &Entry) -> Result<(), AllocError>
+        ensures entries { self.new.entries ≡ self.old.entries }
+        ensures room { OnOk result (IsReadyFor self.new e.now) }
+    {
+        self.ready = None;
+        let room = room_for(&self.entries, &self.index.firsts, e);
+        self.entries.reserve(1)?;
+        self.index.make_room(room)?;
+        self.ready = Some(room);
+        Ok(())
+    }
+
+    /// Enters an entry that may follow. Takes no memory.
+    pub fn enter(&mut self, e: Entry)
+        requires room { IsReadyFor self.old e }
+        requires follows { MayFollow self.old.entries e }
+        ensures { self.new.entries ≡ self.old.entries ++ e ∷ [] }
+    {
+        let Some(room) = self.ready.take() else {
+            return;
+        };
+        let place = count(&self.entries);
+        self.index.enter(&e, place, room.flight);
+        put(&mut self.entries, e);
+    }
+}
