@@ -6,3 +6,8 @@ pub mod Flown
 pub mod Numbered
 pub mod Told
 pub mod Opens
+pub mod Still
+pub mod Sums
+pub mod Needed
+pub mod Settled
+pub mod Fits

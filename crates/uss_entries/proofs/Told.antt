@@ -6,10 +6,12 @@ use Rattle.uss_event.specs.declared.entries.Entry.{Entry}
 use Rattle.uss_law_dss.specs.Lists.{Has}
 use Rattle.uss_law_dss.proofs.Lists.{none_passes, any_true, find_none, find_has, has_filter, has_passed}
 use Rattle.uss_law_dss.proofs.Tests.{same_number, equal_number, and_true, not_true, both, some_same}
-use Rattle.uss_law_book.specs.Lists.{Trial, trials}
-use Rattle.uss_law_book.specs.Readings.{trial_of, owns}
+use Rattle.uss_law_book.specs.Lists.{Trial, Closing, trials}
+use Rattle.uss_law_book.specs.Readings.{trial_of, owns, decision_of}
 use Rattle.uss_law_book.specs.Orderly.{IsOrderly}
 use Rattle.uss_entries.specs.Flights.{IsIn}
+use Rattle.uss_event.specs.declared.entries.Entry.TheVariants.{Deciding}
+use Rattle.uss_legal.specs.Speaks.{speaks_of}
 use Rattle.uss_entries.specs.Told.{is_by_job}
 
 pub any_found : {X : Type 0} (p : X → Bool) (xs : List X) → is_some (find p xs) ≡ list_any p xs
@@ -56,3 +58,16 @@ owns_is job tag es s = go (find (λ (t : Trial). t.tag == tag) (trials es)) refl
     go : (o : Option Trial) → find (λ (t : Trial). t.tag == tag) (trials es) ≡ o → is_by_job job o ≡ list_any test (trials es)
     go None e = sym (none_passes test (trials es) (λ t h. none t (find_none (λ (x : Trial). x.tag == tag) (trials es) t e h)))
     go (Some t) e = let f = find_has (λ (x : Trial). x.tag == tag) (trials es) t e in at t (t.job == job) f.0 (same_number t.tag tag f.1) refl
+
+pub decided_by_any : (job : ℕ) (es : List Entry) → list_any (speaks_of 6 job) es ≡ is_some (decision_of job es)
+unfolding decision_of
+decided_by_any job [] = refl
+decided_by_any job (Deciding j end ∷ es) = found (j == job) (decided_by_any job es)
+  where
+    o : Closing
+    o = record { job = j; end = end }
+
+    found : (b : Bool) → list_any (speaks_of 6 job) es ≡ is_some (decision_of job es) → (b || list_any (speaks_of 6 job) es) ≡ is_some (cond b (Some o) (decision_of job es))
+    found true h = refl
+    found false h = h
+decided_by_any job (_ ∷ es) = decided_by_any job es

@@ -7,3 +7,4 @@ pub mod Index
 pub mod Known
 pub mod Kept
 pub mod Told
+pub mod Reserve

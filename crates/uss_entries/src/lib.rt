@@ -9,6 +9,7 @@ mod flights;
 mod index;
 mod indexed;
 mod marks;
+mod reserve;
 mod room;
 mod tallies;
 mod tally;

@@ -1,4 +1,4 @@
-ghost use Rattle.std.specs.Prelude.{◌≡◌, ◌≤◌, ◌+◌, ◌++◌, ◌∷◌, [], ℕ, List, length, filter, sum_by, IsTrue, OnOk, if◌then◌else◌};
+ghost use Rattle.std.specs.Prelude.{◌≡◌, ◌≤◌, ◌+◌, ◌*◌, ◌++◌, ◌∷◌, [], ℕ, List, length, filter, sum_by, IsTrue, OnOk, if◌then◌else◌};
 ghost use Rattle.std.specs.BTreeMap.{get};
 ghost use Rattle.std.specs.Ordering.{nat_cmp};
 ghost use Rattle.uss_event.specs.declared.entries.Entry.{Entry};
@@ -126,6 +126,7 @@ impl Tallies {
     pub(crate) fn tally(&self, job: u64) -> Tally
         ensures attempts { (es : List Entry) → AreTallies self.now.tallies es → result.attempts ≡ length (trials_of job es) }
         ensures bytes { (es : List Entry) → AreTallies self.now.tallies es → result.bytes ≡ bytes_of job es }
+        ensures small { (es : List Entry) → AreTallies self.now.tallies es → result.bytes ≤ 2085482354 * length es }
     {
         match self.tallies.get(&job) {
             Some(tally) => *tally,
