@@ -1,9 +1,12 @@
 ghost use Rattle.std.specs.Prelude.{◌≡◌, ◌<◌, ◌++◌, ◌∷◌, [], length, slice_get, vec_len, vec_capacity, option_copied, OnOk};
+ghost use Rattle.uss_law_book.specs.Coding.{journal_length};
 ghost use Rattle.uss_law_book.specs.Legal.{MayFollow};
+ghost use Rattle.uss_law_book.specs.Reserve.{need, settled};
 ghost use Rattle.uss_entries.specs.Known.{IsReadyFor};
 
 use crate::index::Index;
 use crate::indexed::room_for;
+use crate::reserve::{need_after, settled_after};
 use crate::room::Room;
 use std::alloc::{AllocError, Global};
 use std::marker::Model;
@@ -17,6 +20,10 @@ pub struct Entries {
     pub(crate) index: Index,
     /// For what room was made, until an entry comes.
     ready: Option<Room>,
+    /// The bytes to be kept free.
+    need: u64,
+    /// The bytes of the journal of the settled entries.
+    settled: u64,
 }
 
 impl Model for Entries {
@@ -28,7 +35,7 @@ impl Model for Entries {
 
     ghost view = { λ s. record { entries = s.entries.items; ready = s.ready } };
 
-    ghost invariant = { λ s. IsKept s.entries.items (vec_len s.entries) (vec_capacity s.entries) s.index s.ready };
+    ghost invariant = { λ s. IsKept s.entries.items (vec_len s.entries) (vec_capacity s.entries) s.index s.ready s.need s.settled };
 }
 
 fn count(entries: &[Entry]) -> usize
@@ -53,6 +60,8 @@ impl Entries {
             entries: Vec::new(alloc),
             index: Index::new(alloc),
             ready: None,
+            need: 0,
+            settled: 9,
         }
     }
 
@@ -75,6 +84,21 @@ impl Entries {
         ensures { option_copied result ≡ slice_get self.now.entries n }
     {
         self.entries.as_slice().get(n)
+    }
+
+    /// The bytes to be kept free: 8 MiB for each open job, 64 for each notification that is owed and wasn't answered, 64 for each
+    /// closed job's ticket that is there.
+    pub fn need(&self) -> u64
+        ensures { result ≡ need self.now.entries }
+    {
+        self.need
+    }
+
+    /// The bytes of the journal without those entries of open jobs that follow their openings.
+    pub fn settled_length(&self) -> u64
+        ensures { result ≡ journal_length (settled self.now.entries) }
+    {
+        self.settled
     }
 
     /// Makes room for a further entry, so that entering it takes no memory. The entries stay.
@@ -100,6 +124,8 @@ impl Entries {
             return;
         };
         let place = count(&self.entries);
+        self.need = need_after(self.need, &self.entries, &self.index.firsts, &e);
+        self.settled = settled_after(self.settled, &self.entries, &self.index, &e);
         self.index.enter(&e, place, room.flight);
         put(&mut self.entries, e);
     }

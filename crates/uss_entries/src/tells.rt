@@ -113,6 +113,13 @@ impl Tells for Entries {
         is_by_job(job, self.attempt(tag))
     }
 
+    fn is_new(&self) -> bool {
+        match self.as_slice() {
+            [] => true,
+            [_, ..] => false,
+        }
+    }
+
     fn has_ticket(&self, job: u64) -> bool {
         self.has(Mark::TicketOpen(job))
     }

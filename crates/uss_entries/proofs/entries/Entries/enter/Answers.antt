@@ -1,5 +1,7 @@
 use Rattle.std.proofs.Common.{ℕ, ◌<◌, ◌^◌, ◌≡◌, ◌++◌, ◌∷◌, [], ◌∙◌, length, sym, subst, ap, Some, None}
 use Rattle.uss_law_dss.proofs.Tests.{some_same}
+use Rattle.uss_law_book.specs.Coding.{journal_length}
+use Rattle.uss_law_book.specs.Reserve.{need, settled}
 use Rattle.uss_law_book.specs.Legal.{MayFollow}
 use Rattle.uss_law_book.proofs.EachOrderly.{legal_is_orderly, legal_longer}
 use Rattle.uss_entries.specs.declared.room.Room.{Room}
@@ -25,4 +27,6 @@ invariant_of-self-2 c =
       legal = legal_longer [] es c.args.e c.self.invariant.legal m;
       index = c.enter.ensures es c.self.invariant.index (legal_is_orderly es c.self.invariant.legal) m (ap (λ (r : Room). r.flight) same) (sym (c.count-place.ensures ∙ ap length c.deref.ensures.value));
       room = tt;
+      needed_is = c.need_after-self-inside.ensures ∙ ap (λ l. need (l ++ c.args.e ∷ [])) c.deref-2.ensures.value;
+      settled_is = c.settled_after-self-inside.ensures ∙ ap (λ l. journal_length (settled (l ++ c.args.e ∷ []))) c.deref-3.ensures.value;
     })
