@@ -275,17 +275,17 @@ need_owner es e l none zero =
     ∙ sym (need_is es)
 
 -- the bytes that are kept free grow by what the entry takes, and fall by what it releases
-pub need_grows : (es : List Entry) (e : Entry) → IsLegal es → MayFollow es e → need (es ++ e ∷ []) + released e ≡ need es + taken es e
+pub need_grows : (es : List Entry) (e : Entry) → IsLegal es → IsDue es e → need (es ++ e ∷ []) + released e ≡ need es + taken es e
 need_grows es (Enters.Owner owner) l m = let a = need_owner es (Enters.Owner owner) l refl refl in omega (arith, a)
-need_grows es (Opened job moment ask) l m = let a = need_opened es (record { job = job; moment = moment; ask = ask }) (legal_is_orderly es l) m.due in omega (arith, a)
+need_grows es (Opened job moment ask) l m = let a = need_opened es (record { job = job; moment = moment; ask = ask }) (legal_is_orderly es l) m in omega (arith, a)
 need_grows es (TicketOpen job) l m =
-    let d = m.due in let a = need_kept es (TicketOpen job) d.opening l refl d.unfinished.opened d.unfinished.unclosed refl refl in omega (arith, a)
+    let d = m in let a = need_kept es (TicketOpen job) d.opening l refl d.unfinished.opened d.unfinished.unclosed refl refl in omega (arith, a)
 need_grows es (Pending job tag alternative previous key) l m =
-    let d = m.due in let a = need_kept es (Pending job tag alternative previous key) d.opening l refl d.unfinished.opened d.unfinished.unclosed refl refl in omega (arith, a)
+    let d = m in let a = need_kept es (Pending job tag alternative previous key) d.opening l refl d.unfinished.opened d.unfinished.unclosed refl refl in omega (arith, a)
 need_grows es (Deciding job end) l m =
-    let d = m.due in let a = need_kept es (Deciding job end) d.opening l refl d.unfinished.opened d.unfinished.unclosed refl refl in omega (arith, a)
+    let d = m in let a = need_kept es (Deciding job end) d.opening l refl d.unfinished.opened d.unfinished.unclosed refl refl in omega (arith, a)
 need_grows es (Held job tag ovn version owed) l m =
-    let o = open_parts es job m.due.unfinished in
+    let o = open_parts es job m.unfinished in
     let has = opening_has es job o.0 o.1 in
     let x : Holding = record { job = job; tag = tag; ovn = ovn; version = version; owed = owed } in
     let c = need_changed es (Held job tag ovn version owed) o.0 l refl has.0 has.1 in
@@ -293,19 +293,19 @@ need_grows es (Held job tag ovn version owed) l m =
     let b = held_cost es x l o.2 in
     omega (arith, a, b, c)
 need_grows es (Done job end) l m =
-    let d = m.due in
+    let d = m in
     let has = opening_has es job d.opening d.opened in
     let c = need_changed es (Done job end) d.opening l refl has.0 has.1 in
     let a = unclosed_cost es job d.unclosed in
     let b = done_cost es (record { job = job; end = end }) l d.unclosed in
     omega (arith, a, b, c)
 need_grows es (TicketGone job) l m =
-    let o = closed_is_opened es job (legal_is_orderly es l) m.due.closed in
+    let o = closed_is_opened es job (legal_is_orderly es l) m.closed in
     let c = need_changed es (TicketGone job) o.0 l refl o.1 o.2 in
-    let a = gone_cost es job m.due in
+    let a = gone_cost es job m in
     omega (arith, a, c)
 need_grows es (Sent job place) l m =
-    let o = closed_is_opened es job (legal_is_orderly es l) m.due.closed in
+    let o = closed_is_opened es job (legal_is_orderly es l) m.closed in
     let c = need_changed es (Sent job place) o.0 l refl o.1 o.2 in
-    let a = sent_cost es job place m.due in
+    let a = sent_cost es job place m in
     omega (arith, a, c)

@@ -231,24 +231,24 @@ not_reserved : (es : List Entry) (e : Entry) → is_closed (job_of e) es ≡ tru
 not_reserved es e c later h k =
     reserved_by (es ++ e ∷ []) e ∙ rw later (and_not_true (is_some (opening_of (job_of e) (es ++ e ∷ []))) (is_closed (job_of e) (es ++ e ∷ [])) (closed_still (job_of e) es e h k ∙ c))
 
-pub settled_grows : (es : List Entry) (e : Entry) → IsLegal es → MayFollow es e → journal_length (settled (es ++ e ∷ [])) ≡ journal_length (settled es) + settled_by es e
+pub settled_grows : (es : List Entry) (e : Entry) → IsLegal es → IsDue es e → journal_length (settled (es ++ e ∷ [])) ≡ journal_length (settled es) + settled_by es e
 settled_grows es (Enters.Owner owner) l m = settled_not_closing es (Enters.Owner owner) false l (λ j. refl) (λ j. refl) refl
 settled_grows es (Opened job moment ask) l m = settled_not_closing es (Opened job moment ask) false l (λ j. refl) (λ j. refl) refl
 settled_grows es (TicketOpen job) l m =
-    let d = m.due in settled_not_closing es (TicketOpen job) true l (λ j. refl) (λ j. refl) (still_reserved es (TicketOpen job) d.opening d.unfinished.opened d.unfinished.unclosed refl refl refl)
+    let d = m in settled_not_closing es (TicketOpen job) true l (λ j. refl) (λ j. refl) (still_reserved es (TicketOpen job) d.opening d.unfinished.opened d.unfinished.unclosed refl refl refl)
 settled_grows es (Pending job tag alternative previous key) l m =
-    let d = m.due in
+    let d = m in
     let e : Entry = Pending job tag alternative previous key in
     settled_not_closing es e true l (λ j. refl) (λ j. refl) (still_reserved es e d.opening d.unfinished.opened d.unfinished.unclosed refl refl refl)
 settled_grows es (Deciding job end) l m =
-    let d = m.due in settled_not_closing es (Deciding job end) true l (λ j. refl) (λ j. refl) (still_reserved es (Deciding job end) d.opening d.unfinished.opened d.unfinished.unclosed refl refl refl)
+    let d = m in settled_not_closing es (Deciding job end) true l (λ j. refl) (λ j. refl) (still_reserved es (Deciding job end) d.opening d.unfinished.opened d.unfinished.unclosed refl refl refl)
 settled_grows es (Held job tag ovn version owed) l m =
     let e : Entry = Held job tag ovn version owed in
     let held : is_held job (es ++ e ∷ []) ≡ true = sym (held_by_any job (es ++ e ∷ [])) ∙ any_more (speaks_of 5 job) es e ∙ right_true _ (speaks_of 5 job e) (equal_number job job refl) in
-    settled_closing es e l m.due.unfinished refl (ap (λ b. b || is_done job (es ++ e ∷ [])) held) (λ j n. (n, refl))
+    settled_closing es e l m.unfinished refl (ap (λ b. b || is_done job (es ++ e ∷ [])) held) (λ j n. (n, refl))
 settled_grows es (Done job end) l m =
     let e : Entry = Done job end in
     let done : is_done job (es ++ e ∷ []) ≡ true = sym (done_by_any job (es ++ e ∷ [])) ∙ any_more (speaks_of 7 job) es e ∙ right_true _ (speaks_of 7 job e) (equal_number job job refl) in
-    settled_closing es e l (open_by es job m.due.opening m.due.opened m.due.unclosed) refl (right_true (is_held job (es ++ e ∷ [])) (is_done job (es ++ e ∷ [])) done) (λ j n. (refl, n))
-settled_grows es (TicketGone job) l m = settled_not_closing es (TicketGone job) false l (λ j. refl) (λ j. refl) (not_reserved es (TicketGone job) m.due.closed refl refl refl)
-settled_grows es (Sent job place) l m = settled_not_closing es (Sent job place) false l (λ j. refl) (λ j. refl) (not_reserved es (Sent job place) m.due.closed refl refl refl)
+    settled_closing es e l (open_by es job m.opening m.opened m.unclosed) refl (right_true (is_held job (es ++ e ∷ [])) (is_done job (es ++ e ∷ [])) done) (λ j n. (refl, n))
+settled_grows es (TicketGone job) l m = settled_not_closing es (TicketGone job) false l (λ j. refl) (λ j. refl) (not_reserved es (TicketGone job) m.closed refl refl refl)
+settled_grows es (Sent job place) l m = settled_not_closing es (Sent job place) false l (λ j. refl) (λ j. refl) (not_reserved es (Sent job place) m.closed refl refl refl)

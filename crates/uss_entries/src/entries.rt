@@ -1,16 +1,17 @@
-ghost use Rattle.std.specs.Prelude.{◌≡◌, ◌<◌, ◌++◌, ◌∷◌, [], length, slice_get, vec_len, vec_capacity, option_copied, OnOk};
-ghost use Rattle.uss_law_book.specs.Coding.{journal_length};
+ghost use Rattle.std.specs.Prelude.{◌≡◌, ◌↔◌, IsTrue, ◌<◌, ◌++◌, ◌∷◌, [], length, slice_get, vec_len, vec_capacity, option_copied, OnOk};
+ghost use Rattle.uss_law_book.specs.Coding.{HasCoding, journal_length};
 ghost use Rattle.uss_law_book.specs.Legal.{MayFollow};
 ghost use Rattle.uss_law_book.specs.Reserve.{need, settled};
 ghost use Rattle.uss_entries.specs.Known.{IsReadyFor};
 
 use crate::index::Index;
 use crate::indexed::room_for;
-use crate::reserve::{need_after, settled_after};
+use crate::reserve::{covers, need_after, settled_after};
 use crate::room::Room;
 use std::alloc::{AllocError, Global};
 use std::marker::Model;
 use uss_event::Entry;
+use uss_legal::is_due;
 
 /// The entries of a supplier's book, which are a legal book, with an index over them. A contract sees the entries, the oldest first,
 /// and for which further ones there is room.
@@ -99,6 +100,19 @@ impl Entries {
         ensures { result ≡ journal_length (settled self.now.entries) }
     {
         self.settled
+    }
+
+    /// Whether an entry that has a coding may follow. Takes no memory.
+    pub fn may_follow(&self, e: &Entry) -> bool
+        requires { HasCoding e.now }
+        ensures { IsTrue result ↔ MayFollow self.now.entries e.now }
+    {
+        let _ = count(&self.entries);
+        if is_due(self, e) {
+            covers(self.need, self.settled, &self.entries, &self.index, e)
+        } else {
+            false
+        }
     }
 
     /// Makes room for a further entry, so that entering it takes no memory. The entries stay.

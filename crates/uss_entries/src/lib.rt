@@ -14,5 +14,7 @@ mod room;
 mod tallies;
 mod tally;
 mod tells;
+#[cfg(test)]
+mod tests;
 
 pub use entries::Entries;

@@ -1,10 +1,10 @@
 // The room that a book keeps free, as entries come.
-ghost use Rattle.std.specs.Prelude.{◌≡◌, ◌≤◌, ◌<◌, ◌^◌, ◌&&◌, not, ◌++◌, ◌∷◌, [], length};
+ghost use Rattle.std.specs.Prelude.{◌≡◌, ◌↔◌, IsTrue, ◌≤◌, ◌<◌, ◌^◌, ◌&&◌, not, ◌++◌, ◌∷◌, [], length};
 ghost use Rattle.std.specs.List.{list_any};
 ghost use Rattle.uss_law_book.specs.Coding.{HasCoding, record_length, journal_length};
-ghost use Rattle.uss_law_book.specs.Legal.{IsLegal, MayFollow};
+ghost use Rattle.uss_law_book.specs.Legal.{IsLegal, IsDue, MayFollow};
 ghost use Rattle.uss_law_book.specs.Readings.{owed_at_end};
-ghost use Rattle.uss_law_book.specs.Reserve.{need, settled};
+ghost use Rattle.uss_law_book.specs.Reserve.{need, settled, ReserveCovers};
 ghost use Rattle.uss_entries.specs.Marks.{has_mark};
 ghost use Rattle.uss_entries.specs.Firsts.{AreFirsts};
 ghost use Rattle.uss_entries.specs.Index.{IsIndex};
@@ -103,7 +103,8 @@ fn settled_by(entries: &[Entry], index: &Index, e: &Entry) -> u128
     requires index { IsIndex index.now entries.now }
     requires small { length entries.now < 2 ^ 64 }
     requires coding { HasCoding e.now }
-    ensures { result ≡ settled_by entries.now e.now }
+    ensures value { result ≡ settled_by entries.now e.now }
+    ensures bound { result ≤ 2 ^ 100 }
 {
     match e {
         Entry::Owner(_) | Entry::Opened { .. } | Entry::TicketGone { .. } | Entry::Sent { .. } => 5
@@ -125,4 +126,20 @@ pub(crate) fn settled_after(now: u64, entries: &[Entry], index: &Index, e: &Entr
     ensures { result ≡ journal_length (settled (entries.now ++ e.now ∷ [])) }
 {
     now + settled_by(entries, index, e) as u64
+}
+
+/// Whether the book keeps its room free after the entry; so many bytes are to be kept free now, and so many are settled.
+pub(crate) fn covers(kept: u64, bytes: u64, entries: &[Entry], index: &Index, e: &Entry) -> bool
+    requires index { IsIndex index.now entries.now }
+    requires small { length entries.now < 2 ^ 64 }
+    requires legal { IsLegal entries.now }
+    requires coding { HasCoding e.now }
+    requires due { IsDue entries.now e.now }
+    requires kept { kept ≡ need entries.now }
+    requires bytes { bytes ≡ journal_length (settled entries.now) }
+    ensures { IsTrue result ↔ ReserveCovers (entries.now ++ e.now ∷ []) }
+{
+    let bytes = u128::from(bytes) + settled_by(entries, index, e);
+    let kept = u128::from(kept) + u128::from(taken(entries, &index.firsts, e));
+    bytes + kept - u128::from(released(e)) <= 536_870_912
 }

@@ -5,7 +5,7 @@ use Rattle.uss_entries.proofs.reserve.need_after.Goals as goal
 
 pub returns : goal.returns
 returns c =
-    let g = need_grows c.args.entries.now c.args.e.now c.requires.legal c.requires.follows in
+    let g = need_grows c.args.entries.now c.args.e.now c.requires.legal c.requires.follows.due in
     omega (arith, g, c.requires.now, c.taken.ensures.value, c.released.ensures)
 
 pub overflow_add-result : goal.overflow_add-result
@@ -15,5 +15,5 @@ overflow_add-result c =
 
 pub overflow_sub-result : goal.overflow_sub-result
 overflow_sub-result c =
-    let g = need_grows c.args.entries.now c.args.e.now c.requires.legal c.requires.follows in
+    let g = need_grows c.args.entries.now c.args.e.now c.requires.legal c.requires.follows.due in
     omega (arith, g, c.requires.now, c.taken.ensures.value, c.released.ensures)
