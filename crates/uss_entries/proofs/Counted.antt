@@ -1,5 +1,5 @@
 -- What is counted of each job, as entries come.
-use Rattle.std.proofs.Common.{ℕ, ◌+◌, ◌*◌, ◌≤◌, ◌==◌, Bool, true, false, cond, List, [], ◌∷◌, ◌++◌, ◌≡◌, length, filter, length-append, append-nil, refl, ap, sym, subst, ◌∙◌, arith, Option, Some, None}
+use Rattle.std.proofs.Common.{ℕ, ◌+◌, ◌≤◌, ◌==◌, Bool, true, false, cond, List, [], ◌∷◌, ◌++◌, ◌≡◌, length, filter, length-append, refl, ap, sym, subst, ◌∙◌, arith, Option, Some}
 use Rattle.std.specs.Prelude.{sum_by}
 use Rattle.std.specs.Ordering.{nat_cmp}
 use Rattle.std.specs.Cmp.{unsigned_ties}
@@ -16,7 +16,7 @@ use Rattle.uss_law_book.specs.Coding.{record_length}
 use Rattle.uss_law_book.proofs.Entries.{trials_append}
 use Rattle.uss_legal.specs.Speaks.{job_of}
 use Rattle.uss_entries.specs.declared.tally.Tally.{Tally}
-use Rattle.uss_entries.specs.Tallies.{is_later_of, bytes_of, attempts_in, bytes_in, IsTally, AreTallies}
+use Rattle.uss_entries.specs.Tallies.{is_later_of, bytes_of, IsTally, AreTallies}
 
 pub bytes_grow : (job : ℕ) (es : List Entry) (e : Entry) → bytes_of job (es ++ e ∷ []) ≡ bytes_of job es + sum_by record_length (filter (is_later_of job) (e ∷ []))
 unfolding bytes_of

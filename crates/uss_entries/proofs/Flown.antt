@@ -1,5 +1,5 @@
 -- What is kept of each flight, as entries come.
-use Rattle.std.proofs.Common.{ℕ, ◌==◌, Bool, true, false, cond, ◌||◌, ◌&&◌, List, [], ◌∷◌, ◌++◌, ◌≡◌, inl, inr, length, refl, ap, sym, subst, ◌∙◌, Option, Some, None, slice_get}
+use Rattle.std.proofs.Common.{ℕ, ◌==◌, Bool, true, false, cond, ◌||◌, ◌&&◌, List, [], ◌∷◌, ◌++◌, ◌≡◌, inl, inr, length, refl, ap, sym, subst, ◌∙◌, Option, Some, None}
 use Rattle.std.specs.Option.{option_and_then, option_map}
 use Rattle.std.specs.Ordering.{nat_cmp}
 use Rattle.std.specs.Cmp.{unsigned_ties}
@@ -11,13 +11,13 @@ use Rattle.uss_law_dss.specs.Lists.{Has}
 use Rattle.uss_law_dss.proofs.Tests.{same_number, equal_number}
 use Rattle.uss_law_book.specs.Lists.{Opening, Holding, Closing, openings, holdings, endings}
 use Rattle.uss_law_book.specs.Readings.{opening_of, jobs_of, last_of, is_ended, is_job_of, has_ended, holdings_of, last_holding}
-use Rattle.uss_law_book.specs.Legal.{IsDue, MayOpen, MayHold, MayEnd}
+use Rattle.uss_law_book.specs.Legal.{IsDue, MayOpen}
 use Rattle.uss_law_book.specs.Orderly.{IsOrderly}
 use Rattle.uss_law_book.proofs.Finds.{first_false}
 use Rattle.uss_law_book.proofs.Kept.{open_parts}
 use Rattle.uss_legal.specs.Speaks.{opening_in, holding_in}
 use Rattle.uss_entries.specs.declared.flight.Flight.{Flight}
-use Rattle.uss_entries.specs.Flights.{IsIn, last_in, recorded_in, ended_in, IsFlight, AreFlights, flight_in, flight_after}
+use Rattle.uss_entries.specs.Flights.{IsIn, last_in, recorded_in, IsFlight, AreFlights, flight_in, flight_after}
 use Rattle.uss_entries.proofs.Places.{got_left, got_last, longer, last_is_in}
 use Rattle.uss_entries.proofs.Grown.{last_else, last_new, last_holding_else, last_holding_new, ended_else, ended_new, job_of_old}
 

@@ -1,9 +1,8 @@
 -- What a book with one more entry tells of flights.
-use Rattle.std.proofs.Common.{ℕ, ◌<◌, ◌==◌, Bool, true, false, cond, ◌||◌, ◌&&◌, List, [], ◌∷◌, ◌++◌, ◌≡◌, inl, inr, filter, append-nil, refl, ap, sym, subst, ◌∙◌, Option, Some, None}
+use Rattle.std.proofs.Common.{ℕ, ◌<◌, ◌==◌, Bool, true, false, ◌||◌, ◌&&◌, List, [], ◌∷◌, ◌++◌, ◌≡◌, inl, inr, filter, append-nil, refl, ap, ◌∙◌, Option, Some, None}
 use Rattle.std.specs.List.{list_any, last_or}
 use Rattle.std.proofs.lemmas.List.Folds.{list_any-append}
 use Rattle.std.proofs.lemmas.List.Elements.{filter-append}
-use Rattle.uss_event.specs.declared.asks.FlightAsk.{FlightAsk}
 use Rattle.uss_event.specs.declared.entries.Entry.{Entry}
 use Rattle.uss_event.specs.declared.entries.Entry.TheVariants.{Opened, Held, Done}
 use Rattle.uss_law_dss.specs.Lists.{Has}

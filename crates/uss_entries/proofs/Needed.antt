@@ -1,5 +1,5 @@
 -- How the bytes that a book keeps free change with an entry.
-use Rattle.std.proofs.Common.{ℕ, ◌+◌, ◌*◌, ◌<◌, ◌≤◌, ◌==◌, Bool, true, false, cond, not, ◌||◌, ◌&&◌, List, [], ◌∷◌, ◌++◌, ◌≡◌, inl, inr, filter, length, append-nil, refl, ap, sym, subst, ◌∙◌, arith, Option, Some, None, is_some}
+use Rattle.std.proofs.Common.{ℕ, ◌+◌, ◌*◌, ◌<◌, ◌==◌, Bool, true, false, not, ◌||◌, ◌&&◌, List, [], ◌∷◌, ◌++◌, ◌≡◌, filter, length, append-nil, refl, ap, sym, subst, ◌∙◌, arith, Some, None, is_some}
 use Rattle.std.specs.Prelude.{sum_by}
 use Rattle.std.specs.List.{list_any, find, range_with_len}
 use Rattle.std.specs.Option.{option_and_then}
@@ -10,12 +10,12 @@ use Rattle.uss_event.specs.declared.entries.Entry.{Entry}
 use Rattle.uss_event.specs.declared.entries.Entry.TheVariants.{Opened, TicketOpen, Pending, Held, Deciding, Done, TicketGone, Sent}
 use Rattle.uss_event.specs.declared.entries.Entry.TheVariants as Enters
 use Rattle.uss_law_dss.specs.Lists.{Has}
-use Rattle.uss_law_dss.proofs.Lists.{list_any_has, none_passes}
+use Rattle.uss_law_dss.proofs.Lists.{list_any_has}
 use Rattle.uss_law_dss.proofs.Tests.{same_number, equal_number, unequal_number, neither, either, right_true, none_is}
 use Rattle.uss_law_book.specs.Lists.{Opening, Holding, Closing, openings, holdings, endings, tickets_gone}
 use Rattle.uss_law_book.specs.Readings.{opening_of, is_held, is_done, is_closed, decision_of, holding_of, ending_of, is_ticket_open, is_ticket_gone, is_one_of, owed_of, owed_at_end, is_told, untold, keeps_ticket}
 use Rattle.uss_law_book.specs.Reserve.{need}
-use Rattle.uss_law_book.specs.Legal.{IsDue, MayOpen, MayHold, MayEnd, MayRetire, MayTell, MayFollow, IsLegal}
+use Rattle.uss_law_book.specs.Legal.{IsDue, MayOpen, MayRetire, MayTell, MayFollow, IsLegal}
 use Rattle.uss_law_book.specs.Orderly.{IsOrderly}
 use Rattle.uss_law_book.proofs.Entries.{openings_append, unclosed_before}
 use Rattle.uss_law_book.proofs.Kept.{opening_has, open_parts}
@@ -26,7 +26,7 @@ use Rattle.uss_entries.specs.Reserve.{for_ticket, taken, released}
 use Rattle.uss_entries.proofs.Places.{found_now}
 use Rattle.uss_entries.proofs.Told.{any_found}
 use Rattle.uss_entries.proofs.Opens.{each_legal}
-use Rattle.uss_entries.proofs.Still.{any_more, held_still, done_still, ticket_still, gone_still, gone_more, told_still, told_more, holding_still, ending_still, decision_still, owed_still, closed_still, untold_still, ticket_gone_still, filters_agree, one_if, cost, cost_still}
+use Rattle.uss_entries.proofs.Still.{any_more, done_still, ticket_still, gone_still, gone_more, told_still, told_more, holding_still, decision_still, owed_still, closed_still, untold_still, ticket_gone_still, filters_agree, one_if, cost, cost_still}
 use Rattle.uss_entries.proofs.Sums.{AreNumbered, one_more_job, at_least, sums_agree, sums_differ, counts_are_sums, one_less}
 
 -- ---- what holds of every legal book

@@ -1,15 +1,13 @@
 -- The index, as entries come.
-use Rattle.std.proofs.Common.{ℕ, ◌+◌, ◌*◌, ◌^◌, ◌<◌, ◌≤◌, ◌==◌, Bool, true, false, List, [], ◌∷◌, ◌++◌, ◌≡◌, length, filter, length-append, append-nil, refl, ap, sym, subst, ◌∙◌, arith, Option, Some, None, slice_get}
+use Rattle.std.proofs.Common.{ℕ, ◌+◌, ◌^◌, ◌<◌, ◌≤◌, ◌==◌, List, [], ◌∷◌, ◌++◌, ◌≡◌, length, length-append, ap, sym, ◌∙◌, arith, Option, Some, None, slice_get}
 use Rattle.std.specs.Option.{option_and_then}
-use Rattle.std.specs.List.{find}
 use Rattle.std.specs.Ordering.{nat_cmp}
 use Rattle.std.specs.BTreeMap as tree
 use Rattle.uss_event.specs.declared.entries.Entry.{Entry}
 use Rattle.uss_event.specs.declared.entries.Entry.TheVariants.{Opened, Pending}
 use Rattle.uss_law_dss.proofs.Lists.{length-filter_le}
-use Rattle.uss_law_book.specs.Lists.{Opening, Trial, openings, trials}
+use Rattle.uss_law_book.specs.Lists.{Trial, openings, trials}
 use Rattle.uss_law_book.specs.Readings.{trials_of}
-use Rattle.uss_law_book.specs.Coding.{HasCoding}
 use Rattle.uss_law_book.specs.Legal.{MayFollow}
 use Rattle.uss_law_book.proofs.Entries.{openings_append, trials_append}
 use Rattle.uss_legal.specs.Speaks.{job_of}

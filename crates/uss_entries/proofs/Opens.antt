@@ -1,5 +1,5 @@
 -- The open job of a flight is that of its last request.
-use Rattle.std.proofs.Common.{ℕ, ◌==◌, Bool, true, false, cond, not, nat_lt, ◌||◌, ◌&&◌, List, [], ◌∷◌, ◌++◌, ◌≡◌, inl, inr, refl, ap, sym, subst, ◌∙◌, Option, Some, None}
+use Rattle.std.proofs.Common.{ℕ, ◌==◌, Bool, true, false, cond, not, nat_lt, List, [], ◌∷◌, ◌++◌, ◌≡◌, inl, inr, refl, ap, sym, subst, ◌∙◌, Option, Some, None}
 use Rattle.std.specs.List.{find}
 use Rattle.std.proofs.lemmas.List.{append-nil, append_assoc}
 use Rattle.uss_event.specs.declared.entries.Entry.{Entry}
@@ -9,7 +9,7 @@ use Rattle.uss_law_dss.proofs.Lists.{find_has, has_filter, has_passed}
 use Rattle.uss_law_dss.proofs.Tests.{same_number, not_true, not_false, some_same}
 use Rattle.uss_law_book.specs.Lists.{Opening, openings}
 use Rattle.uss_law_book.specs.Readings.{is_closed, jobs_of, open_job_of, greater, greatest, last_of}
-use Rattle.uss_law_book.specs.Legal.{IsDue, MayOpen, MayFollow, MayAllFollow, IsLegal}
+use Rattle.uss_law_book.specs.Legal.{IsDue, MayFollow, MayAllFollow, IsLegal}
 use Rattle.uss_law_book.specs.Orderly.{IsOrderly}
 use Rattle.uss_law_book.proofs.Entries.{which_opening, unclosed_before}
 use Rattle.uss_law_book.proofs.Greatest.{each_is_closed}

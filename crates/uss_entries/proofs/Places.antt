@@ -1,5 +1,5 @@
 -- Places in a list that grows.
-use Rattle.std.proofs.Common.{ℕ, ◌<◌, ◌+◌, Bool, true, false, List, [], ◌∷◌, ◌++◌, ◌≡◌, length, length-append, refl, sym, subst, ◌∙◌, arith, Option, Some, None, slice_get, zero, suc}
+use Rattle.std.proofs.Common.{ℕ, ◌<◌, Bool, true, false, List, [], ◌∷◌, ◌++◌, ◌≡◌, length, length-append, refl, sym, subst, ◌∙◌, arith, Option, Some, None, slice_get, zero, suc}
 use Rattle.std.specs.List.{find}
 use Rattle.std.specs.Prelude.{Result, Ok, Err, OnOk, OnErr}
 use Rattle.std.specs.Option.{option_or}

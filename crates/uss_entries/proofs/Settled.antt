@@ -1,5 +1,5 @@
 -- How the bytes of the settled entries change with an entry.
-use Rattle.std.proofs.Common.{ℕ, ◌+◌, ◌==◌, Bool, true, false, cond, not, ◌||◌, ◌&&◌, List, [], ◌∷◌, ◌++◌, ◌≡◌, inl, inr, filter, length, refl, ap, sym, subst, ◌∙◌, arith, Option, Some, None, is_some}
+use Rattle.std.proofs.Common.{ℕ, ◌+◌, ◌==◌, Bool, true, false, cond, not, ◌||◌, ◌&&◌, List, [], ◌∷◌, ◌++◌, ◌≡◌, inl, inr, filter, refl, ap, sym, subst, ◌∙◌, arith, Some, is_some}
 use Rattle.std.specs.Prelude.{sum_by}
 use Rattle.std.proofs.lemmas.Bool.Decides.{nat_tests}
 use Rattle.std.proofs.lemmas.List.Sums.{sum_by-append, sum_by-cons}
@@ -9,7 +9,7 @@ use Rattle.uss_event.specs.declared.entries.Entry.TheVariants.{Opened, TicketOpe
 use Rattle.uss_event.specs.declared.entries.Entry.TheVariants as Enters
 use Rattle.uss_law_dss.specs.Lists.{Has}
 use Rattle.uss_law_dss.proofs.Lists.{has_append}
-use Rattle.uss_law_dss.proofs.Tests.{same_number, equal_number, unequal_number, right_true, not_false}
+use Rattle.uss_law_dss.proofs.Tests.{same_number, equal_number, right_true}
 use Rattle.uss_law_book.specs.Lists.{Opening, openings}
 use Rattle.uss_law_book.specs.Readings.{opening_of, is_held, is_done, is_closed, is_open}
 use Rattle.uss_law_book.specs.Coding.{record_length, journal_length}

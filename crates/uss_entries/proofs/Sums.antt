@@ -1,11 +1,11 @@
 -- Sums over the jobs of a book.
-use Rattle.std.proofs.Common.{ℕ, ◌+◌, ◌*◌, ◌<◌, ◌≤◌, ◌==◌, Bool, true, false, cond, not, ◌||◌, List, [], ◌∷◌, ◌++◌, ◌≡◌, ◌≢◌, inl, inr, filter, length, refl, ap, sym, subst, ◌∙◌, arith, zero, suc}
+use Rattle.std.proofs.Common.{ℕ, ◌+◌, ◌*◌, ◌<◌, ◌≤◌, ◌==◌, Bool, true, false, cond, not, ◌||◌, List, [], ◌∷◌, ◌++◌, ◌≡◌, inl, inr, filter, length, refl, ap, sym, subst, ◌∙◌, arith, zero, suc}
 use Rattle.std.specs.Prelude.{sum_by}
 use Rattle.std.specs.List.{range_with_len}
 use Rattle.std.proofs.lemmas.Bool.Decides.{nat_tests}
 use Rattle.std.proofs.lemmas.List.Sums.{sum_by-cons}
 use Rattle.uss_law_dss.specs.Lists.{Has}
-use Rattle.uss_law_dss.proofs.Tests.{same_number, unequal_number, not_false}
+use Rattle.uss_law_dss.proofs.Tests.{same_number, unequal_number}
 use Rattle.uss_law_book.specs.Lists.{Opening}
 use Rattle.uss_entries.proofs.Still.{one_if}
 

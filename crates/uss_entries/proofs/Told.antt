@@ -1,11 +1,11 @@
 -- What a book tells, by its marks.
-use Rattle.std.proofs.Common.{ℕ, ◌==◌, Bool, true, false, cond, not, ◌||◌, ◌&&◌, List, [], ◌∷◌, ◌++◌, ◌≡◌, inl, inr, refl, ap, sym, subst, ◌∙◌, Option, Some, None, is_some, slice_get, Bor}
+use Rattle.std.proofs.Common.{ℕ, ◌==◌, Bool, true, false, cond, ◌||◌, ◌&&◌, List, [], ◌∷◌, ◌≡◌, refl, sym, subst, ◌∙◌, Option, Some, None, is_some, slice_get, Bor}
 use Rattle.std.specs.List.{list_any, find}
 use Rattle.std.specs.Option.{option_and_then, option_copied}
 use Rattle.uss_event.specs.declared.entries.Entry.{Entry}
 use Rattle.uss_law_dss.specs.Lists.{Has}
-use Rattle.uss_law_dss.proofs.Lists.{none_passes, any_true, find_none, find_has, has_filter, has_passed}
-use Rattle.uss_law_dss.proofs.Tests.{same_number, equal_number, and_true, not_true, both, some_same}
+use Rattle.uss_law_dss.proofs.Lists.{none_passes, any_true, find_none, find_has}
+use Rattle.uss_law_dss.proofs.Tests.{same_number, equal_number, and_true}
 use Rattle.uss_law_book.specs.Lists.{Trial, Closing, trials}
 use Rattle.uss_law_book.specs.Readings.{trial_of, owns, decision_of}
 use Rattle.uss_law_book.specs.Orderly.{IsOrderly}

@@ -1,6 +1,5 @@
 use Rattle.std.proofs.Common.{◌∙◌, ap, sym, refl}
 use Rattle.std.specs.Option.{option_map, option_and_then}
-use Rattle.uss_event.specs.declared.entries.Entry.{Entry}
 use Rattle.uss_law_book.specs.Lists.{Opening}
 use Rattle.uss_legal.specs.Speaks.{opening_in}
 use Rattle.uss_legal.proofs.Direct.{opening_by_find}

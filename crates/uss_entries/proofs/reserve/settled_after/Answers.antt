@@ -1,4 +1,4 @@
-use Rattle.std.proofs.Common.{◌≤◌, arith}
+use Rattle.std.proofs.Common.{arith}
 use Rattle.uss_entries.proofs.Settled.{settled_grows}
 use Rattle.uss_entries.proofs.Fits.{settled_fits}
 use Rattle.uss_entries.proofs.reserve.settled_after.Goals as goal

@@ -1,4 +1,4 @@
-use Rattle.std.proofs.Common.{ℕ, ◌<◌, ◌^◌, ◌≡◌, ◌++◌, ◌∷◌, [], ◌∙◌, length, sym, subst, ap, Some, None}
+use Rattle.std.proofs.Common.{ℕ, ◌<◌, ◌^◌, ◌≡◌, ◌++◌, ◌∷◌, [], ◌∙◌, length, sym, subst, ap, Some}
 use Rattle.uss_law_dss.proofs.Tests.{some_same}
 use Rattle.uss_law_book.specs.Coding.{journal_length}
 use Rattle.uss_law_book.specs.Reserve.{need, settled}

@@ -1,7 +1,6 @@
 use Rattle.std.proofs.Common.{sym, ap, ◌∙◌, ◌+◌, arith, ◌≡◌, Some, None}
 use Rattle.std.specs.BTreeMap as tree
 use Rattle.std.specs.Ordering.{nat_cmp}
-use Rattle.uss_legal.specs.Speaks.{job_of}
 use Rattle.uss_entries.specs.declared.tally.Tally.{Tally}
 use Rattle.uss_entries.proofs.Places.{done}
 use Rattle.uss_entries.proofs.Counted.{counted_at}

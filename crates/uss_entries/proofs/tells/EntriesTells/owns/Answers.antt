@@ -1,4 +1,4 @@
-use Rattle.std.proofs.Common.{◌≡◌, ◌∙◌, ap, sym}
+use Rattle.std.proofs.Common.{◌∙◌, ap}
 use Rattle.uss_law_book.specs.Orderly.{IsOrderly}
 use Rattle.uss_law_book.proofs.EachOrderly.{legal_is_orderly}
 use Rattle.uss_entries.specs.Told.{is_by_job}
