@@ -1,0 +1,13 @@
+pub mod Places
+pub mod Marked
+pub mod Counted
+pub mod Grown
+pub mod Flown
+pub mod Numbered
+pub mod Told
+pub mod Opens
+pub mod Still
+pub mod Sums
+pub mod Needed
+pub mod Settled
+pub mod Fits

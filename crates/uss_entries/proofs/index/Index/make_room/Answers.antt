@@ -1,0 +1,14 @@
+use Rattle.uss_entries.proofs.Places.{on_ok}
+use Rattle.uss_entries.proofs.index.Index.make_room.Goals as goal
+
+pub returns-in_err-make_room-2-clause-kept : goal.returns-in_err-make_room-2-clause-kept
+returns-in_err-make_room-2-clause-kept c = λ es is.
+    record { jobs = is.jobs; tags = is.tags; firsts = c.make_room.ensures.kept es is.firsts; tallies = c.make_room-2.ensures.kept es is.tallies; flights = is.flights }
+
+pub returns-clause-kept : goal.returns-clause-kept
+returns-clause-kept c = λ es is.
+    record { jobs = is.jobs; tags = is.tags; firsts = c.make_room.ensures.kept es is.firsts; tallies = c.make_room-2.ensures.kept es is.tallies; flights = c.make_room-3.ensures.kept es is.flights }
+
+pub returns-clause-room : goal.returns-clause-room
+returns-clause-room c =
+    on_ok c.make_room-3.result c.make_room-3.ensures.room (λ row. record { mark = c.in_ok-make_room.ensures.room; job = c.in_ok-make_room-2.ensures.room; flight = row })

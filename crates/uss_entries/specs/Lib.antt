@@ -1,0 +1,10 @@
+pub mod Marks
+pub mod MarkOrder
+pub mod Firsts
+pub mod Tallies
+pub mod Flights
+pub mod Index
+pub mod Known
+pub mod Kept
+pub mod Told
+pub mod Reserve

@@ -1,0 +1,20 @@
+//! The entries of a supplier's book with an index over them, so that every reader of the book answers in time logarithmic in the
+//! entries.
+#![tactic(auto)]
+
+mod entries;
+mod firsts;
+mod flight;
+mod flights;
+mod index;
+mod indexed;
+mod marks;
+mod reserve;
+mod room;
+mod tallies;
+mod tally;
+mod tells;
+#[cfg(test)]
+mod tests;
+
+pub use entries::Entries;
