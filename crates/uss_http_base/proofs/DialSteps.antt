@@ -1,5 +1,5 @@
 -- A dial as a stream.
-use Rattle.std.proofs.Common.{◌≡◌, ℕ, ◌<◌, Bool, true, false, List, [], ◌∷◌, ◌++◌, length, take, Option, Some, Ok, refl, sym, ap, ◌∙◌, subst, arith, append_assoc}
+use Rattle.std.proofs.Common.{◌≡◌, ℕ, ◌<◌, Bool, true, false, List, [], ◌∷◌, ◌++◌, length, take, Option, Some, None, Ok, Err, append-nil, refl, sym, ap, ◌∙◌, subst, arith, append_assoc}
 use Rattle.std.specs.Prelude.{◌==◌, ◌&&◌, ◌||◌, nat_lt, IsTrue}
 use Rattle.std.proofs.lemmas.Bool.Decides.{nat_tests}
 use Rattle.uss_link.specs.Talks.{Talk, with_received, Receives}
@@ -27,4 +27,39 @@ twice_last x y d e talk i = record talk { received = append_assoc talk.received 
 heard_twice : (x y : List ℕ) (d e : Bool) (talks : List Talk) → heard y e (heard x d talks) ≡ heard (x ++ y) (d || e) talks
 heard_twice x y d e [] = refl
 heard_twice x y d e (talk ∷ []) = ap (λ (t : Talk). t ∷ []) (twice_last x y d e talk)
-heard_twice x y d e (talk ∷ next ∷ talks) = heard_on x y d e talk (heard x d (next ∷ talks)) (next ∷ talks) refl (heard_twice x y d e (next ∷ talks))
+heard_twice x y d e (talk ∷ next ∷ []) = ap (λ (ts : List Talk). talk ∷ ts) (heard_twice x y d e (next ∷ []))
+heard_twice x y d e (talk ∷ next ∷ third ∷ talks) = ap (λ (ts : List Talk). talk ∷ ts) (heard_twice x y d e (next ∷ third ∷ talks))
+
+-- one call that received
+pub heard_more : {E : Type 0} (origin before after : Option (List Talk)) (past buffer filled : List ℕ) (n : ℕ) → HeardFrom origin before past → Receives {E = E} before after buffer filled (Ok n) → HeardFrom origin after (past ++ take n filled)
+heard_more origin before after past buffer filled n had receives =
+    record {
+      told = λ talks is.
+          let h = had.told talks is in
+          let g = receives.told (heard past h.is_end talks) h.told in
+          let e = n == 0 && nat_lt 0 (length buffer) in
+          record {
+            is_end = h.is_end || e;
+            told = g.are ∙ ap Some (sym (heard_last (take n filled) e g.earlier g.last) ∙ ap (heard (take n filled) e) (sym g.were) ∙ heard_twice past (take n filled) h.is_end e talks);
+          };
+    }
+
+end_given : (n : ℕ) (buffer : List ℕ) → n ≡ 0 → 0 < length buffer → (n == 0 && nat_lt 0 (length buffer)) ≡ true
+end_given n buffer none some = grind (arith, nat_tests)
+
+or_true : (a b : Bool) → b ≡ true → IsTrue (a || b)
+or_true true b is = refl
+or_true false b is = is
+
+-- none in a buffer that isn't empty is the end
+pub over_from : {E : Type 0} (before after : Option (List Talk)) (buffer filled : List ℕ) (n : ℕ) → Receives {E = E} before after buffer filled (Ok n) → n ≡ 0 → 0 < length buffer → IsOver after
+over_from None after buffer filled n receives none some = record { told = λ talks is. absurd (let s = receives.untold refl in cc) }
+over_from (Some before) after buffer filled n receives none some =
+    let g = receives.told before refl in
+    let e = n == 0 && nat_lt 0 (length buffer) in
+    record {
+      told = λ talks is.
+          let same : Some talks ≡ Some (g.earlier ++ with_received (take n filled) e g.last ∷ []) = sym is ∙ g.are in
+          let are : talks ≡ g.earlier ++ with_received (take n filled) e g.last ∷ [] = cc in
+          subst (λ (ts : List Talk). IsTrue (is_over ts)) (sym are) (subst (λ (b : Bool). IsTrue b) (sym (over_last g.earlier (with_received (take n filled) e g.last))) (or_true g.last.ended e (end_given n buffer none some)));
+    }

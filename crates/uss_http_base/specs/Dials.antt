@@ -26,19 +26,3 @@ pub record HeardFrom (before after : Option (List Talk)) (bytes : List ℕ) : Ty
 -- where a dial tells, the end of its last stream was given
 pub record IsOver (now : Option (List Talk)) : Type 0 where
   pub told : (talks : List Talk) → now ≡ Some talks → IsTrue (is_over talks)
-
--- between a moment and itself nothing was received
-same_end : (b : Bool) → (b || false) ≡ b
-same_end true = refl
-same_end false = refl
-
-same_last : (talk : Talk) → with_received [] false talk ≡ talk
-same_last talk i = record talk { received = append-nil talk.received i; ended = same_end talk.ended i }
-
-heard_none : (talks : List Talk) → heard [] false talks ≡ talks
-heard_none [] = refl
-heard_none (talk ∷ []) = ap (λ (t : Talk). t ∷ []) (same_last talk)
-heard_none (talk ∷ next ∷ talks) = ap (λ (ts : List Talk). talk ∷ ts) (heard_none (next ∷ talks))
-
-pub heard_nothing : (now : Option (List Talk)) → HeardFrom now now []
-heard_nothing now = record { told = λ talks is. record { is_end = false; told = is ∙ ap Some (sym (heard_none talks)) } }

@@ -12,3 +12,4 @@ pub mod BodyAnswers
 pub mod Requests
 pub mod Sources
 pub mod Dials
+pub mod NothingHeard

@@ -1,4 +1,5 @@
-ghost use Rattle.uss_http_base.specs.Dials.{HeardFrom, IsOver, heard_nothing};
+ghost use Rattle.uss_http_base.specs.Dials.{HeardFrom, IsOver};
+ghost use Rattle.uss_http_base.specs.NothingHeard.{heard_nothing};
 
 use crate::stream::{Stream, StreamFault};
 use uss_link::{Dial, DialFault};
