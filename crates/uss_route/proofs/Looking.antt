@@ -13,11 +13,11 @@ use Rattle.uss_http.specs.declared.refusal.HttpRefusal.TheVariants as refusal
 use Rattle.uss_route.specs.declared.found.Route.{Route}
 use Rattle.uss_route.specs.Routes.{fits, is_served, is_written_out, rows_at, with_method, joined, is_tagged, untagged, without_query, refused, route_at, route_by, route_on, route_of}
 
-both_left : (a b : Bool) → (a && b) ≡ true → a ≡ true
+pub both_left : (a b : Bool) → (a && b) ≡ true → a ≡ true
 both_left true b e = refl
 both_left false b e = e
 
-both_right : (a b : Bool) → (a && b) ≡ true → b ≡ true
+pub both_right : (a b : Bool) → (a && b) ≡ true → b ≡ true
 both_right true b e = e
 both_right false b e = absurd (cc)
 
