@@ -3,6 +3,8 @@
 
 mod reading;
 mod refusal;
+#[cfg(test)]
+mod tests;
 mod writing;
 
 pub use reading::{read_request, read_response};

@@ -5,6 +5,8 @@ mod dials;
 mod heads;
 mod response;
 mod rest;
+#[cfg(test)]
+mod tests;
 
 pub use dials::response_from;
 pub use heads::{BodyEnd, ResponseHeads, StatusHead, take_status_head};

@@ -39,7 +39,10 @@ fn take_body_at<K, T: Stream<K>>(
 /// Takes one response from a stream of which nothing was read before. Bytes behind it may have been taken too: a
 /// connection carries one response.
 #[tactic(auto, using(uss_http_base::proofs::Passing::hears_then, uss_http_base::proofs::Passing::hears_same))]
-pub fn take_response<K, T: Stream<K>>(alloc: Global, stream: &mut T) -> Result<Response, ReadRefusal>
+pub fn take_response<K, T: Stream<K>>(
+    alloc: Global,
+    stream: &mut T,
+) -> Result<Response, ReadRefusal>
     ensures answer { ShowsAnswer T.gave T.ended stream.old stream.new result }
     ensures kept { T.faults stream.old ≤ T.faults stream.new }
     ensures fault { result ≡ Err ReadRefusal.Fault → Rose (T.faults stream.old) (T.faults stream.new) }

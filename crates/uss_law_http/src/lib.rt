@@ -3,4 +3,4 @@
 
 mod laws;
 
-pub use laws::{one_answer, one_body, one_head};
+pub use laws::{one_answer, one_body, one_head, one_response};

@@ -167,8 +167,7 @@ pub parameters_are : (row : RouteRow) (path : List ℕ) (ps : List (List ℕ)) �
 parameters_are row path ps is =
     let text = text_of row in
     let rest = parameters_text ps in
-    let behind : behind_text row path ≡ rest = ap (drop (length text)) is.spelled ∙ behind_front text rest in
-    (
+    let behind : behind_text row path ≡ rest = ap (drop (length text)) is.spelled ∙ behind_front text rest in (
       ap (λ (l : List ℕ). if nat_lt 0 (count_of row) then first_segment l else []) behind ∙ ap (λ (n : ℕ). if nat_lt 0 n then first_segment rest else []) (sym is.count) ∙ first_at ps is.are,
       ap (λ (l : List ℕ). if nat_lt 1 (count_of row) then first_segment (behind_segment l) else []) behind ∙ ap (λ (n : ℕ). if nat_lt 1 n then first_segment (behind_segment rest) else []) (sym is.count) ∙ second_at ps is.are,
     )

@@ -8,8 +8,10 @@ mod laws;
 mod paths;
 mod routes;
 mod rows;
+#[cfg(test)]
+mod tests;
 
-pub use laws::paths_are_texts_and_parameters;
 pub use found::Route;
+pub use laws::paths_are_texts_and_parameters;
 pub use routes::route;
 pub use rows::RouteRow;

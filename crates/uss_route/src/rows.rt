@@ -86,10 +86,8 @@ impl RouteRow {
     {
         match self {
             RouteRow::DssQuery => "/dss/v1/operational_intent_references/query",
-            RouteRow::DssGet
-            | RouteRow::DssCreate
-            | RouteRow::DssChange
-            | RouteRow::DssRemove => "/dss/v1/operational_intent_references",
+            RouteRow::DssGet | RouteRow::DssCreate | RouteRow::DssChange | RouteRow::DssRemove =>
+                "/dss/v1/operational_intent_references",
             RouteRow::TicketQuery => "/dss/v1/subscriptions/query",
             RouteRow::TicketPut
             | RouteRow::TicketGet
