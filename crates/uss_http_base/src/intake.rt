@@ -53,7 +53,11 @@ fn zeros(alloc: Global, count: usize) -> Result<Vec<u8>, AllocError>
 
 /// Reads the next bytes of the stream into the piece, and adds them to the others. Says how many: none at the end.
 #[tactic(auto, using(crate::proofs::Passing::hears_then, crate::proofs::Passing::hears_same))]
-fn add_next<K, T: Stream<K>>(stream: &mut T, piece: &mut [u8], bytes: &mut Vec<u8>) -> Result<usize, Halt>
+fn add_next<K, T: Stream<K>>(
+    stream: &mut T,
+    piece: &mut [u8],
+    bytes: &mut Vec<u8>,
+) -> Result<usize, Halt>
     requires { 0 < length piece.old }
     ensures adds { IfOk result (Adds T.gave stream.old stream.new bytes.old.items bytes.new.items) }
     ensures within { IfOk result (λ n. n ≤ length piece.old) }
@@ -159,7 +163,11 @@ impl Intake {
 
     /// Takes bytes until a line ended, their number doubled, or there are `limit` of them.
     #[tactic(auto, using(crate::proofs::Passing::hears_then, crate::proofs::Passing::hears_same))]
-    pub fn take_lines<K, T: Stream<K>>(&mut self, stream: &mut T, limit: usize) -> Result<More, Halt>
+    pub fn take_lines<K, T: Stream<K>>(
+        &mut self,
+        stream: &mut T,
+        limit: usize,
+    ) -> Result<More, Halt>
         ensures some { result ≡ Ok More.Some → length self.old < length self.new }
         ensures same { result ≡ Ok More.End → self.new ≡ self.old }
         ensures ended { result ≡ Ok More.End → T.ended stream.new }

@@ -1,4 +1,4 @@
-//! Laws of how requests are read: the same bytes have one answer. No code that runs.
+//! Laws of how requests and responses are read: the same bytes have one answer. No code that runs.
 #![tactic(auto)]
 
 mod laws;
