@@ -18,6 +18,17 @@ refusal_of read.NoClient = refusal.NoClient
 refusal_of read.Fault = refusal.ReadFault
 refusal_of read.Memory = refusal.Memory
 
+-- the same of reading over a dial
+abbrev pub refusal_over : ReadRefusal → HttpRefusal
+refusal_over read.HeadTooLarge = refusal.HeadTooLarge
+refusal_over read.BadHead = refusal.BadHead
+refusal_over read.BodyTooLarge = refusal.BodyTooLarge
+refusal_over read.BadChunk = refusal.BadChunk
+refusal_over read.Truncated = refusal.Truncated
+refusal_over read.NoClient = refusal.NoClient
+refusal_over read.Fault = refusal.DialFault
+refusal_over read.Memory = refusal.Memory
+
 -- the number of a refusal, 0 for a fault and for want of memory
 abbrev pub refusal_number : HttpRefusal → ℕ
 refusal_number refusal.HeadTooLarge = 431

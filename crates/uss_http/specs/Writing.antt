@@ -2,7 +2,7 @@
 use Rattle.std.specs.Prelude.{ℕ, ◌==◌, nat_le, ◌&&◌, List, [], ◌++◌, length, codes, decimal, unwrap_or, if◌then◌else◌}
 use Rattle.http.specs.StatusCode.{reason_phrase}
 use Rattle.uss_http_base.specs.declared.request.Request.{Request}
-use Rattle.uss_http.specs.declared.writing.Response.{Response}
+use Rattle.uss_http_response.specs.declared.response.Response.{Response}
 
 -- method, path, host, client, type, length; and the body
 abbrev pub request_text : (host : List ℕ) → Request → List ℕ

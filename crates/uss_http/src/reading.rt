@@ -1,11 +1,14 @@
 ghost use Rattle.std.specs.Prelude.{◌≡◌, ℕ, ◌≤◌, List, Some, Err};
 ghost use Rattle.uss_cause.specs.Cause.{Rose};
 ghost use Rattle.uss_http.specs.Refusals.{IsReadFrom};
+ghost use Rattle.uss_http.specs.Responses.{IsReadOver};
+ghost use Rattle.uss_link.specs.Talks.{Talk};
 
-use crate::refusal::{HttpRefusal, of_source};
+use crate::refusal::{HttpRefusal, of_dial, of_source};
 use std::alloc::Global;
 use uss_http_base::{Request, request_from};
-use uss_link::Source;
+use uss_http_response::{Response, response_from};
+use uss_link::{Dial, Source};
 
 /// Reads one request. Where the source tells the bytes that it has left, the answer is theirs, whatever pieces they come
 /// in: the request at their front, or why there is none. A request that isn't complete is refused. Bytes behind the
@@ -18,5 +21,20 @@ pub fn read_request<S: Source>(alloc: Global, input: &mut S) -> Result<Request, 
     match request_from(alloc, input) {
         Ok(request) => Ok(request),
         Err(refusal) => Err(of_source(refusal)),
+    }
+}
+
+/// Reads one response over the open stream of a dial, of which nothing was received before. Where the dial tells what was
+/// received, the answer is that of all the bytes up to the end of the stream, whatever pieces they come in: the response at
+/// their front, or why there is none. A response that isn't complete is refused. Bytes behind it may have been received too: a
+/// connection carries one response. Whatever the answer, what was sent stays as it was.
+pub fn read_response<G: Dial>(alloc: Global, dial: &mut G) -> Result<Response, HttpRefusal>
+    ensures exact { (talks : List Talk) → G.talks dial.old ≡ Some talks → IsReadOver talks (G.talks dial.new) result }
+    ensures kept { G.faults dial.old ≤ G.faults dial.new }
+    ensures fault { result ≡ Err HttpRefusal.DialFault → Rose (G.faults dial.old) (G.faults dial.new) }
+{
+    match response_from(alloc, dial) {
+        Ok(response) => Ok(response),
+        Err(refusal) => Err(of_dial(refusal)),
     }
 }

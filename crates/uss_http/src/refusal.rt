@@ -1,5 +1,5 @@
 ghost use Rattle.std.specs.Prelude.{◌≡◌};
-ghost use Rattle.uss_http.specs.Refusals.{refusal_of, refusal_number};
+ghost use Rattle.uss_http.specs.Refusals.{refusal_of, refusal_over, refusal_number};
 
 use uss_http_base::{Bytes, ReadRefusal};
 
@@ -46,6 +46,16 @@ pub(crate) fn of_source(refusal: ReadRefusal) -> HttpRefusal
         ReadRefusal::NoClient => HttpRefusal::NoClient,
         ReadRefusal::Fault => HttpRefusal::ReadFault,
         ReadRefusal::Memory => HttpRefusal::Memory,
+    }
+}
+
+/// The refusal of reading over a dial.
+pub(crate) fn of_dial(refusal: ReadRefusal) -> HttpRefusal
+    ensures { result ≡ refusal_over refusal }
+{
+    match refusal {
+        ReadRefusal::Fault => HttpRefusal::DialFault,
+        other => of_source(other),
     }
 }
 

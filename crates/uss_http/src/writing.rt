@@ -9,7 +9,8 @@ use crate::refusal::HttpRefusal;
 use http::StatusCode;
 use itoa::Buffer;
 use std::alloc::{AllocError, Global};
-use uss_http_base::{Bytes, Request};
+use uss_http_base::Request;
+use uss_http_response::Response;
 use uss_link::{Dial, DialFault, Sink, WriteFault, send_all, write_all};
 
 /// What stands between a value before it and the length of the body.
@@ -17,15 +18,6 @@ const TYPE_AND_LENGTH: &[u8] = b"\r\nContent-Type: application/json\r\nContent-L
 
 /// What stands between the length of the body and the body.
 const END_OF_FIELDS: &[u8] = b"\r\nConnection: close\r\n\r\n";
-
-/// A response: its status and its body.
-#[derive(Debug, Drop)]
-pub struct Response {
-    /// The status, as 200.
-    pub status: u16,
-    /// The body.
-    pub body: Bytes,
-}
 
 /// Adds two pieces at the end of a text.
 fn add_both(text: &mut Vec<u8>, first: &[u8], second: &[u8]) -> Result<(), AllocError>

@@ -7,5 +7,6 @@ pub mod HeadSteps
 pub mod ChunkSteps
 pub mod BodySteps
 pub mod SourceSteps
+pub mod DialSteps
 pub mod RequestSteps
 pub mod Lifting

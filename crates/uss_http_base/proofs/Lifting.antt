@@ -19,7 +19,7 @@ use Rattle.uss_http_base.specs.Requests.{IsRequest, IsRefused, IsAnswerOf, Shows
 use Rattle.uss_http_base.proofs.Fronts.{target_front}
 
 -- the front of more bytes goes on from the front of these
-front_more : (n : ℕ) (xs ys : List ℕ) → (w : List ℕ) × (take n (xs ++ ys) ≡ take n xs ++ w)
+pub front_more : (n : ℕ) (xs ys : List ℕ) → (w : List ℕ) × (take n (xs ++ ys) ≡ take n xs ++ w)
 front_more zero xs ys = ([], refl)
 front_more (suc n) [] ys = (take (suc n) ys, refl)
 front_more (suc n) (x ∷ xs) ys = let r = front_more n xs ys in (r.0, ap (λ (l : List ℕ). x ∷ l) r.1)
@@ -30,7 +30,7 @@ begins_more all rest more tree b = record { valid = b.valid; spelled = ap (λ (l
 head_more : (all rest more : List ℕ) (head : Head) → HasHead all head rest → HasHead (all ++ more) head (rest ++ more)
 head_more all rest more head has = record { tree = has.tree; begins = begins_more all rest more has.tree has.begins; says = has.says }
 
-body_more : (framing : Framing) (rest more body : List ℕ) → IsBody framing rest body → IsBody framing (rest ++ more) body
+pub body_more : (framing : Framing) (rest more body : List ℕ) → IsBody framing rest body → IsBody framing (rest ++ more) body
 body_more Nothing rest more body is = is
 body_more (Length n) rest more body is = (is.0, omega (arith, is.1, length-append rest more), is.2 ∙ sym (take-append-le n rest more is.1))
 body_more Chunked rest more body is =
@@ -88,7 +88,7 @@ too_much_more n bytes more much = record { line = much.line; rest = much.rest ++
 stops_more : (stop : ℕ → List ℕ → Type 0) (bytes more : List ℕ) → ((n : ℕ) (rest : List ℕ) → stop n rest → stop n (rest ++ more)) → StopsWhere stop bytes → StopsWhere stop (bytes ++ more)
 stops_more stop bytes more go s = record { chunks = s.chunks; rest = s.rest ++ more; are_chunks = s.are_chunks; within = s.within; spelled = spelled_more bytes (chunks_text s.chunks) s.rest more s.spelled; stops = go _ s.rest s.stops }
 
-body_refusal_more : (framing : Framing) (rest more : List ℕ) (e : ReadRefusal) → (e ≡ refusal.Truncated → ⊥) → IsRefusedBody framing rest e → IsRefusedBody framing (rest ++ more) e
+pub body_refusal_more : (framing : Framing) (rest more : List ℕ) (e : ReadRefusal) → (e ≡ refusal.Truncated → ⊥) → IsRefusedBody framing rest e → IsRefusedBody framing (rest ++ more) e
 body_refusal_more Nothing rest more e other r = absurd r
 body_refusal_more (Length n) rest more refusal.BodyTooLarge other r = r
 body_refusal_more (Length n) rest more refusal.Truncated other r = absurd (other refl)

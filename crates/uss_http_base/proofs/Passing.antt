@@ -1,7 +1,7 @@
 -- How the bytes of a stream go on from one call to the next.
 use Rattle.std.proofs.Common.{◌≡◌, ℕ, ◌+◌, ◌-◌, ◌<◌, ◌≤◌, ◌++◌, List, [], ◌∷◌, length, take, drop, refl, sym, ◌∙◌, ap, subst, arith, append_assoc, length-append, length-take, append-nil}
 use Rattle.std.proofs.lemmas.List.{take-append-drop}
-use Rattle.uss_http_base.specs.Streams.{Passes, Adds, Moves, Lacks}
+use Rattle.uss_http_base.specs.Streams.{come, Hears, Passes, Adds, Moves, Lacks}
 
 pub passes_same : {S : Type 0} (gave : S → S → List ℕ → Type 0) (s : S) (bytes : List ℕ) → Passes gave s bytes s bytes
 passes_same gave s bytes = record { told = λ origin past had. had }
@@ -69,3 +69,19 @@ moves_front gave s kept old new n within added =
 pub passes_behind : {S : Type 0} {gave : S → S → List ℕ → Type 0} {a b : S} {x y : List ℕ} → (front : List ℕ) → Passes gave a x b y → Passes gave a (front ++ x) b (front ++ y)
 passes_behind {gave = gave} {a = a} {b = b} {x = x} {y = y} front went =
     record { told = λ origin past had. subst (gave origin b) (append_assoc past front y) (went.told origin (past ++ front) (subst (gave origin a) (sym (append_assoc past front x)) had)) }
+
+pub hears_same : {S : Type 0} (gave : S → S → List ℕ → Type 0) (s : S) → Hears gave s s
+hears_same gave s = record { more = λ origin past had. ([], subst (gave origin s) (sym (append-nil past)) had) }
+
+pub hears_then : {S : Type 0} {gave : S → S → List ℕ → Type 0} {a b c : S} → Hears gave a b → Hears gave b c → Hears gave a c
+hears_then {gave = gave} {c = c} first second =
+    record {
+      more = λ origin past had.
+          let one = first.more origin past had in
+          let two = second.more origin (past ++ one.0) one.1 in
+          (one.0 ++ two.0, subst (gave origin c) (append_assoc past one.0 two.0) two.1);
+    }
+
+-- what one call gave
+pub hears_next : {S : Type 0} (gave : S → S → List ℕ → Type 0) (a b : S) (bytes : List ℕ) → ((origin : S) (past : List ℕ) → gave origin a past → gave origin b (past ++ bytes)) → Hears gave a b
+hears_next gave a b bytes gives = record { more = λ origin past had. (bytes, gives origin past had) }

@@ -15,7 +15,7 @@ field_long f is =
     let n = is.name.0 in
     simp length-append (omega arith)
 
-fields_long : (fs : List Field) → All IsField fs → 3 * length fs ≤ length (flat_map print_field fs)
+pub fields_long : (fs : List Field) → All IsField fs → 3 * length fs ≤ length (flat_map print_field fs)
 fields_long [] all = omega arith
 fields_long (f ∷ fs) all =
     let here = field_long f (All-head IsField f fs all) in

@@ -11,3 +11,5 @@ pub mod ChunkAnswers
 pub mod BodyAnswers
 pub mod Requests
 pub mod Sources
+pub mod Dials
+pub mod NothingHeard

@@ -14,6 +14,10 @@ come (Err e) filled = []
 pub record Passes {S : Type 0} (gave : S → S → List ℕ → Type 0) (before : S) (old : List ℕ) (after : S) (new : List ℕ) : Type 0 where
   pub told : (origin : S) (past : List ℕ) → gave origin before (past ++ old) → gave origin after (past ++ new)
 
+-- Whatever came up to the first moment, it and perhaps more bytes came up to the second.
+pub record Hears {S : Type 0} (gave : S → S → List ℕ → Type 0) (before after : S) : Type 0 where
+  pub more : (origin : S) (past : List ℕ) → gave origin before past → (bytes : List ℕ) × gave origin after (past ++ bytes)
+
 -- a halt that no bytes cause
 abbrev pub IsOutside : Halt → Type 0
 IsOutside halt.Fault = Unit {0}

@@ -2,6 +2,7 @@ ghost use Rattle.std.specs.Prelude.{◌≡◌, ℕ, [], ◌≤◌, length, Err, 
 ghost use Rattle.uss_cause.specs.Cause.{Rose};
 ghost use Rattle.uss_http_base.specs.Bodies.{TakesBody, MissesBody};
 ghost use Rattle.uss_http_base.specs.BodyAnswers.{TakesToLast};
+ghost use Rattle.uss_http_base.specs.Streams.{Hears};
 
 use crate::chunk::{BODY_LIMIT, Turn, piece_refusal, take_chunk};
 use crate::data::take_data;
@@ -13,7 +14,8 @@ use crate::trailers::{Trailers, take_trailers};
 use std::alloc::{AllocError, Global};
 
 /// Takes chunks up to and with the last line, and adds their bytes to the body.
-fn take_chunks<T: Stream>(
+#[tactic(auto, using(crate::proofs::Passing::hears_then, crate::proofs::Passing::hears_same))]
+fn take_chunks<K, T: Stream<K>>(
     stream: &mut T,
     intake: &mut Intake,
     body: &mut Vec<u8>,
@@ -22,6 +24,7 @@ fn take_chunks<T: Stream>(
     ensures taken { OnOk result (TakesToLast T.gave stream.old intake.old stream.new intake.new body.new.items) }
     ensures refused { IfErr result (MissesBody T.gave T.ended stream.old intake.old stream.new Framing.Chunked) }
     ensures kept { T.faults stream.old ≤ T.faults stream.new }
+    ensures heard { Hears T.gave stream.old stream.new }
     ensures fault { result ≡ Err ReadRefusal.Fault → Rose (T.faults stream.old) (T.faults stream.new) }
 {
     'chunks: loop {
@@ -34,7 +37,8 @@ fn take_chunks<T: Stream>(
 }
 
 /// Takes a body in chunks, with its trailers.
-fn take_chunked<T: Stream>(
+#[tactic(auto, using(crate::proofs::Passing::hears_then, crate::proofs::Passing::hears_same))]
+fn take_chunked<K, T: Stream<K>>(
     alloc: Global,
     stream: &mut T,
     intake: &mut Intake,
@@ -44,6 +48,7 @@ fn take_chunked<T: Stream>(
     ensures taken { OnOk result (TakesBody T.gave stream.old intake.old stream.new Framing.Chunked body.new.items) }
     ensures refused { IfErr result (MissesBody T.gave T.ended stream.old intake.old stream.new Framing.Chunked) }
     ensures kept { T.faults stream.old ≤ T.faults stream.new }
+    ensures heard { Hears T.gave stream.old stream.new }
     ensures fault { result ≡ Err ReadRefusal.Fault → Rose (T.faults stream.old) (T.faults stream.new) }
 {
     match take_chunks(stream, intake, body) {
@@ -61,7 +66,8 @@ fn take_chunked<T: Stream>(
 }
 
 /// Takes a body by its length.
-fn take_sized<T: Stream>(
+#[tactic(auto, using(crate::proofs::Passing::hears_then, crate::proofs::Passing::hears_same))]
+fn take_sized<K, T: Stream<K>>(
     stream: &mut T,
     intake: &mut Intake,
     count: u32,
@@ -71,6 +77,7 @@ fn take_sized<T: Stream>(
     ensures taken { OnOk result (TakesBody T.gave stream.old intake.old stream.new (Framing.Length count) body.new.items) }
     ensures refused { IfErr result (MissesBody T.gave T.ended stream.old intake.old stream.new (Framing.Length count)) }
     ensures kept { T.faults stream.old ≤ T.faults stream.new }
+    ensures heard { Hears T.gave stream.old stream.new }
     ensures fault { result ≡ Err ReadRefusal.Fault → Rose (T.faults stream.old) (T.faults stream.new) }
 {
     if count as usize > BODY_LIMIT {
@@ -83,7 +90,8 @@ fn take_sized<T: Stream>(
 }
 
 /// Takes a body whose end is found so.
-pub fn take_body<T: Stream>(
+#[tactic(auto, using(crate::proofs::Passing::hears_then, crate::proofs::Passing::hears_same))]
+pub fn take_body<K, T: Stream<K>>(
     alloc: Global,
     stream: &mut T,
     intake: &mut Intake,
@@ -92,6 +100,7 @@ pub fn take_body<T: Stream>(
     ensures taken { IfOk result (λ body. TakesBody T.gave stream.old intake.old stream.new framing body.items) }
     ensures refused { IfErr result (MissesBody T.gave T.ended stream.old intake.old stream.new framing) }
     ensures kept { T.faults stream.old ≤ T.faults stream.new }
+    ensures heard { Hears T.gave stream.old stream.new }
     ensures fault { result ≡ Err ReadRefusal.Fault → Rose (T.faults stream.old) (T.faults stream.new) }
 {
     let mut body = Vec::new(alloc);

@@ -1,7 +1,7 @@
 ghost use Rattle.std.specs.Prelude.{◌≡◌, ℕ, ◌++◌, ◌≤◌, length, Ok, Err, IfOk, IfErr, OnOk};
 ghost use Rattle.httparse.specs.Ascii.{crlf_bytes};
 ghost use Rattle.uss_cause.specs.Cause.{Rose};
-ghost use Rattle.uss_http_base.specs.Streams.{Passes};
+ghost use Rattle.uss_http_base.specs.Streams.{Hears, Passes};
 ghost use Rattle.uss_http_base.specs.Fields.{body_limit};
 ghost use Rattle.uss_http_base.specs.ChunkAnswers.{TakesSize, MissesChunk, MissesLineEnd, TakesChunk, TakesLast, refusal_of_piece};
 
@@ -38,10 +38,12 @@ pub fn piece_refusal(halt: Halt) -> ReadRefusal
 }
 
 /// Takes a size line, and says the size.
-fn take_size<T: Stream>(stream: &mut T, intake: &mut Intake) -> Result<u64, ReadRefusal>
+#[tactic(auto, using(crate::proofs::Passing::hears_then, crate::proofs::Passing::hears_same))]
+fn take_size<K, T: Stream<K>>(stream: &mut T, intake: &mut Intake) -> Result<u64, ReadRefusal>
     ensures taken { IfOk result (TakesSize T.gave stream.old intake.old stream.new intake.new) }
     ensures refused { (so_far : ℕ) → IfErr result (MissesChunk T.gave T.ended stream.old intake.old stream.new so_far) }
     ensures kept { T.faults stream.old ≤ T.faults stream.new }
+    ensures heard { Hears T.gave stream.old stream.new }
     ensures fault { result ≡ Err ReadRefusal.Fault → Rose (T.faults stream.old) (T.faults stream.new) }
 {
     let (len, size) = match take_piece(stream, intake, &mut SizeLine) {
@@ -53,10 +55,12 @@ fn take_size<T: Stream>(stream: &mut T, intake: &mut Intake) -> Result<u64, Read
 }
 
 /// Takes the CR LF behind the bytes of a chunk.
-fn take_line_end<T: Stream>(stream: &mut T, intake: &mut Intake) -> Result<(), Halt>
+#[tactic(auto, using(crate::proofs::Passing::hears_then, crate::proofs::Passing::hears_same))]
+fn take_line_end<K, T: Stream<K>>(stream: &mut T, intake: &mut Intake) -> Result<(), Halt>
     ensures taken { OnOk result (Passes T.gave stream.old intake.old stream.new (crlf_bytes ++ intake.new)) }
     ensures refused { IfErr result (MissesLineEnd T.gave T.ended stream.old intake.old stream.new) }
     ensures kept { T.faults stream.old ≤ T.faults stream.new }
+    ensures heard { Hears T.gave stream.old stream.new }
     ensures fault { result ≡ Err Halt.Fault → Rose (T.faults stream.old) (T.faults stream.new) }
 {
     match take_piece(stream, intake, &mut ChunkEnd) {
@@ -68,7 +72,8 @@ fn take_line_end<T: Stream>(stream: &mut T, intake: &mut Intake) -> Result<(), H
 }
 
 /// Takes the next chunk and adds its bytes to the body, or takes the last line.
-pub fn take_chunk<T: Stream>(
+#[tactic(auto, using(crate::proofs::Passing::hears_then, crate::proofs::Passing::hears_same))]
+pub fn take_chunk<K, T: Stream<K>>(
     stream: &mut T,
     intake: &mut Intake,
     body: &mut Vec<u8>,
@@ -78,6 +83,7 @@ pub fn take_chunk<T: Stream>(
     ensures last { result ≡ Ok Turn.Last → TakesLast T.gave stream.old intake.old stream.new intake.new body.old.items body.new.items }
     ensures refused { IfErr result (MissesChunk T.gave T.ended stream.old intake.old stream.new (length body.old.items)) }
     ensures kept { T.faults stream.old ≤ T.faults stream.new }
+    ensures heard { Hears T.gave stream.old stream.new }
     ensures fault { result ≡ Err ReadRefusal.Fault → Rose (T.faults stream.old) (T.faults stream.new) }
 {
     let size = match take_size(stream, intake) {

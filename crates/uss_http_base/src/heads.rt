@@ -4,6 +4,7 @@ ghost use Rattle.uss_cause.specs.Cause.{Rose};
 ghost use Rattle.uss_http_base.specs.Heads.{IsOpenHead, BeginsNoHead};
 ghost use Rattle.uss_http_base.specs.HeadAnswers.{IsHeadAt, TakesHead, MissesHead, refusal_of_head};
 ghost use Rattle.uss_http_base.specs.Pieces.{MatchLook, piece_limit};
+ghost use Rattle.uss_http_base.specs.Streams.{Hears};
 
 use crate::fields::{Framing, body_framing, client_name};
 use crate::halt::Halt;
@@ -22,7 +23,7 @@ use uss_intent::{Name, Sequence};
 pub type Bytes = Sequence<u8>;
 
 /// Room for the fields of a head: as many as 16 KiB can have, so that there are never too many.
-pub(crate) const ROOM: usize = 5462;
+pub const ROOM: usize = 5462;
 
 /// Heads of requests, with the places of the fields of the last one that was found.
 #[derive(Drop)]
@@ -42,7 +43,7 @@ impl Model for RequestHeads {
 }
 
 /// So many empty places.
-pub(crate) fn places(alloc: Global, count: usize) -> Result<Vec<HeaderSpan>, AllocError>
+pub fn places(alloc: Global, count: usize) -> Result<Vec<HeaderSpan>, AllocError>
     ensures { IfOk result (λ places. length places.items ≡ count) }
 {
     vec![in alloc; EMPTY_HEADER_SPAN; count]
@@ -156,7 +157,7 @@ fn head_at(
 }
 
 /// Why there is no head.
-fn head_refusal(halt: Halt) -> ReadRefusal
+pub fn head_refusal(halt: Halt) -> ReadRefusal
     ensures { result ≡ refusal_of_head halt }
 {
     match halt {
@@ -169,7 +170,8 @@ fn head_refusal(halt: Halt) -> ReadRefusal
 }
 
 /// Takes a head from the stream.
-pub fn take_head<T: Stream>(
+#[tactic(auto, using(crate::proofs::Passing::hears_then, crate::proofs::Passing::hears_same))]
+pub fn take_head<K, T: Stream<K>>(
     alloc: Global,
     stream: &mut T,
     intake: &mut Intake,
@@ -178,6 +180,7 @@ pub fn take_head<T: Stream>(
     ensures taken { IfOk result (TakesHead T.gave stream.old intake.old stream.new intake.new) }
     ensures refused { IfErr result (MissesHead T.gave T.ended stream.old intake.old stream.new) }
     ensures kept { T.faults stream.old ≤ T.faults stream.new }
+    ensures heard { Hears T.gave stream.old stream.new }
     ensures fault { result ≡ Err ReadRefusal.Fault → Rose (T.faults stream.old) (T.faults stream.new) }
 {
     let spans = match take_piece(stream, intake, heads) {

@@ -1,7 +1,7 @@
 ghost use Rattle.std.specs.Prelude.{◌≡◌, ℕ, ◌+◌, ◌<◌, ◌≤◌, ◌++◌, [], List, length, drop, take, Ok, Err, IfOk, IfErr, OnOk, IsErrOf};
 ghost use Rattle.uss_cause.specs.Cause.{Rose};
 ghost use Rattle.uss_http_base.specs.Pieces.{piece_limit};
-ghost use Rattle.uss_http_base.specs.Streams.{Passes, Adds, IsOutside};
+ghost use Rattle.uss_http_base.specs.Streams.{Hears, Passes, Adds, IsOutside};
 
 use crate::halt::Halt;
 use crate::stream::{Stream, StreamFault};
@@ -52,13 +52,19 @@ fn zeros(alloc: Global, count: usize) -> Result<Vec<u8>, AllocError>
 }
 
 /// Reads the next bytes of the stream into the piece, and adds them to the others. Says how many: none at the end.
-fn add_next<T: Stream>(stream: &mut T, piece: &mut [u8], bytes: &mut Vec<u8>) -> Result<usize, Halt>
+#[tactic(auto, using(crate::proofs::Passing::hears_then, crate::proofs::Passing::hears_same))]
+fn add_next<K, T: Stream<K>>(
+    stream: &mut T,
+    piece: &mut [u8],
+    bytes: &mut Vec<u8>,
+) -> Result<usize, Halt>
     requires { 0 < length piece.old }
     ensures adds { IfOk result (Adds T.gave stream.old stream.new bytes.old.items bytes.new.items) }
     ensures within { IfOk result (λ n. n ≤ length piece.old) }
     ensures grows { length bytes.old.items ≤ length bytes.new.items }
     ensures ended { IfOk result (λ n. n ≡ 0 → T.ended stream.new) }
     ensures kept { T.faults stream.old ≤ T.faults stream.new }
+    ensures heard { Hears T.gave stream.old stream.new }
     ensures fault { IsErrOf result Halt.Fault → Rose (T.faults stream.old) (T.faults stream.new) }
     ensures kinds { IfErr result IsOutside }
 {
@@ -136,12 +142,14 @@ impl Intake {
     }
 
     /// Takes some more bytes from the stream.
-    pub fn take_more<T: Stream>(&mut self, stream: &mut T) -> Result<More, Halt>
+    #[tactic(auto, using(crate::proofs::Passing::hears_then, crate::proofs::Passing::hears_same))]
+    pub fn take_more<K, T: Stream<K>>(&mut self, stream: &mut T) -> Result<More, Halt>
         ensures some { result ≡ Ok More.Some → length self.old < length self.new }
         ensures same { result ≡ Ok More.End → self.new ≡ self.old }
         ensures ended { result ≡ Ok More.End → T.ended stream.new }
         ensures passes { OnOk result (Passes T.gave stream.old self.old stream.new self.new) }
         ensures kept { T.faults stream.old ≤ T.faults stream.new }
+        ensures heard { Hears T.gave stream.old stream.new }
         ensures fault { IsErrOf result Halt.Fault → Rose (T.faults stream.old) (T.faults stream.new) }
         ensures kinds { IfErr result IsOutside }
     {
@@ -154,12 +162,18 @@ impl Intake {
     }
 
     /// Takes bytes until a line ended, their number doubled, or there are `limit` of them.
-    pub fn take_lines<T: Stream>(&mut self, stream: &mut T, limit: usize) -> Result<More, Halt>
+    #[tactic(auto, using(crate::proofs::Passing::hears_then, crate::proofs::Passing::hears_same))]
+    pub fn take_lines<K, T: Stream<K>>(
+        &mut self,
+        stream: &mut T,
+        limit: usize,
+    ) -> Result<More, Halt>
         ensures some { result ≡ Ok More.Some → length self.old < length self.new }
         ensures same { result ≡ Ok More.End → self.new ≡ self.old }
         ensures ended { result ≡ Ok More.End → T.ended stream.new }
         ensures passes { OnOk result (Passes T.gave stream.old self.old stream.new self.new) }
         ensures kept { T.faults stream.old ≤ T.faults stream.new }
+        ensures heard { Hears T.gave stream.old stream.new }
         ensures fault { IsErrOf result Halt.Fault → Rose (T.faults stream.old) (T.faults stream.new) }
         ensures kinds { IfErr result IsOutside }
     {
@@ -186,7 +200,8 @@ impl Intake {
 
     /// Takes some bytes from the stream, at most `limit` of them, and adds them to the body and not to the bytes
     /// kept here. Says how many: none at the end of the stream.
-    pub fn read_past<T: Stream>(
+    #[tactic(auto, using(crate::proofs::Passing::hears_then, crate::proofs::Passing::hears_same))]
+    pub fn read_past<K, T: Stream<K>>(
         &mut self,
         stream: &mut T,
         limit: usize,
@@ -198,6 +213,7 @@ impl Intake {
         ensures ended { IfOk result (λ n. n ≡ 0 → T.ended stream.new) }
         ensures same { self.new ≡ self.old }
         ensures kept { T.faults stream.old ≤ T.faults stream.new }
+        ensures heard { Hears T.gave stream.old stream.new }
         ensures fault { IsErrOf result Halt.Fault → Rose (T.faults stream.old) (T.faults stream.new) }
         ensures kinds { IfErr result IsOutside }
     {

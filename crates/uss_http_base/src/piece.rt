@@ -1,6 +1,6 @@
 ghost use Rattle.std.specs.Prelude.{◌≡◌, ℕ, ◌<◌, ◌≤◌, List, length, take, Ok, Err, IfOk, IsErrOf};
 ghost use Rattle.uss_cause.specs.Cause.{Rose};
-ghost use Rattle.uss_http_base.specs.Streams.{Passes, UnlessOutside};
+ghost use Rattle.uss_http_base.specs.Streams.{Hears, Passes, UnlessOutside};
 ghost use Rattle.uss_http_base.specs.Pieces.{MatchLook, piece_limit};
 
 use crate::halt::Halt;
@@ -43,7 +43,8 @@ pub const PIECE_LIMIT: usize = 16384;
 
 /// Takes bytes until a look at them shows a whole piece at their front. The piece stays among the bytes not yet
 /// used. It looks again only when a line ended, the bytes doubled, or their limit was reached.
-pub fn take_piece<T: Stream, P: Piece>(
+#[tactic(auto, using(crate::proofs::Passing::hears_then, crate::proofs::Passing::hears_same))]
+pub fn take_piece<K, T: Stream<K>, P: Piece>(
     stream: &mut T,
     intake: &mut Intake,
     piece: &mut P,
@@ -54,6 +55,7 @@ pub fn take_piece<T: Stream, P: Piece>(
     ensures long { result ≡ Err Halt.Long → (piece_limit ≤ length intake.new) × P.unfinished piece.new (take piece_limit intake.new) }
     ensures cut { result ≡ Err Halt.Cut → (length intake.new < piece_limit) × P.unfinished piece.new (take piece_limit intake.new) × T.ended stream.new }
     ensures kept { T.faults stream.old ≤ T.faults stream.new }
+    ensures heard { Hears T.gave stream.old stream.new }
     ensures fault { result ≡ Err Halt.Fault → Rose (T.faults stream.old) (T.faults stream.new) }
 {
     'looking: loop {

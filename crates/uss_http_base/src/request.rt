@@ -1,6 +1,7 @@
 ghost use Rattle.std.specs.Prelude.{◌≡◌, ℕ, ◌≤◌, List, Some, Err, IsErrOf};
 ghost use Rattle.uss_cause.specs.Cause.{Rose};
 ghost use Rattle.uss_http_base.specs.Requests.{AnswersStream, IsAnswerOf};
+ghost use Rattle.uss_http_base.specs.Streams.{Hears};
 
 use crate::body::take_body;
 use crate::heads::{Bytes, RequestHeads, take_head};
@@ -25,9 +26,11 @@ pub struct Request {
 
 /// Takes one request from a stream of which nothing was read before. Bytes behind it may have been taken too: a
 /// connection carries one request.
-pub fn take_request<T: Stream>(alloc: Global, stream: &mut T) -> Result<Request, ReadRefusal>
+#[tactic(auto, using(crate::proofs::Passing::hears_then, crate::proofs::Passing::hears_same))]
+pub fn take_request<K, T: Stream<K>>(alloc: Global, stream: &mut T) -> Result<Request, ReadRefusal>
     ensures answer { AnswersStream T.gave T.ended stream.old stream.new result }
     ensures kept { T.faults stream.old ≤ T.faults stream.new }
+    ensures heard { Hears T.gave stream.old stream.new }
     ensures fault { result ≡ Err ReadRefusal.Fault → Rose (T.faults stream.old) (T.faults stream.new) }
 {
     let mut intake = match Intake::new(alloc) {

@@ -9,7 +9,11 @@ use crate::stream::{Stream, StreamFault};
 use std::alloc::Global;
 use uss_link::{ReadFault, Source};
 
-impl<S: Source> Stream for S {
+/// The bytes come from a source.
+#[derive(Clone, Copy, Debug, PartialEq, Eq)]
+pub struct FromSource;
+
+impl<S: Source> Stream<FromSource> for S {
     ghost faults = { S.faults };
 
     ghost gave = { λ s t bytes. GaveFrom (S.left s) (S.left t) bytes };

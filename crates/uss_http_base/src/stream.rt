@@ -7,7 +7,7 @@ ghost use Rattle.uss_http_base.specs.Streams.{come};
 pub struct StreamFault;
 
 /// Bytes that come, whether from a source or over a dial.
-pub trait Stream {
+pub trait Stream<K> {
     /// How many faults were answered: it never falls.
     ghost faults: { Self → ℕ };
 

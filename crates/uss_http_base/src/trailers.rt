@@ -4,6 +4,7 @@ ghost use Rattle.uss_cause.specs.Cause.{Rose};
 ghost use Rattle.uss_http_base.specs.BodyAnswers.{TakesTrailers, MissesTrailers};
 ghost use Rattle.uss_http_base.specs.Chunks.{AreOpenTrailers};
 ghost use Rattle.uss_http_base.specs.Pieces.{MatchLook, piece_limit};
+ghost use Rattle.uss_http_base.specs.Streams.{Hears};
 
 use crate::halt::Halt;
 use crate::heads::{ROOM, places};
@@ -69,7 +70,8 @@ fn look_for_trailers(bytes: &[u8], headers: &mut [HeaderSpan]) -> Look<usize>
 }
 
 /// Takes bytes until the trailers are whole.
-pub fn take_trailers<T: Stream>(
+#[tactic(auto, using(crate::proofs::Passing::hears_then, crate::proofs::Passing::hears_same))]
+pub fn take_trailers<K, T: Stream<K>>(
     stream: &mut T,
     intake: &mut Intake,
     trailers: &mut Trailers,
@@ -77,6 +79,7 @@ pub fn take_trailers<T: Stream>(
     ensures taken { OnOk result (TakesTrailers T.gave stream.old intake.old stream.new) }
     ensures refused { IfErr result (MissesTrailers T.gave T.ended stream.old intake.old stream.new) }
     ensures kept { T.faults stream.old ≤ T.faults stream.new }
+    ensures heard { Hears T.gave stream.old stream.new }
     ensures fault { result ≡ Err Halt.Fault → Rose (T.faults stream.old) (T.faults stream.new) }
 {
     match take_piece(stream, intake, trailers) {

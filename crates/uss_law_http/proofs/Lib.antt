@@ -1,3 +1,4 @@
 pub mod One
 pub mod Ends
 pub mod Same
+pub mod Responses

@@ -1,6 +1,7 @@
 -- Which answers the bytes decide. This project's own.
 use Rattle.std.specs.Prelude.{Result, Ok, Err}
 use Rattle.uss_http_base.specs.declared.request.Request.{Request}
+use Rattle.uss_http_response.specs.declared.response.Response.{Response}
 use Rattle.uss_http_base.specs.declared.refusal.ReadRefusal.{ReadRefusal}
 use Rattle.uss_http_base.specs.declared.refusal.ReadRefusal.TheVariants as refusal
 
@@ -15,3 +16,15 @@ IsByTheBytes (Err refusal.Truncated) = Unit {0}
 IsByTheBytes (Err refusal.NoClient) = Unit {0}
 IsByTheBytes (Err refusal.Fault) = ⊥
 IsByTheBytes (Err refusal.Memory) = ⊥
+
+-- the same of the answer of reading a response
+abbrev pub IsResponseByTheBytes : Result Response ReadRefusal → Type 0
+IsResponseByTheBytes (Ok response) = Unit {0}
+IsResponseByTheBytes (Err refusal.HeadTooLarge) = Unit {0}
+IsResponseByTheBytes (Err refusal.BadHead) = Unit {0}
+IsResponseByTheBytes (Err refusal.BodyTooLarge) = Unit {0}
+IsResponseByTheBytes (Err refusal.BadChunk) = Unit {0}
+IsResponseByTheBytes (Err refusal.Truncated) = Unit {0}
+IsResponseByTheBytes (Err refusal.NoClient) = Unit {0}
+IsResponseByTheBytes (Err refusal.Fault) = ⊥
+IsResponseByTheBytes (Err refusal.Memory) = ⊥

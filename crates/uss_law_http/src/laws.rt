@@ -6,7 +6,9 @@ ghost use Rattle.uss_http_base.specs.declared.request.Request.{Request};
 ghost use Rattle.uss_http_base.specs.HeadAnswers.{HasHead, IsRefusedHead};
 ghost use Rattle.uss_http_base.specs.Bodies.{IsBody, IsRefusedBody};
 ghost use Rattle.uss_http_base.specs.Requests.{IsAnswerOf};
-ghost use Rattle.uss_law_http.specs.Found.{IsByTheBytes};
+ghost use Rattle.uss_http_response.specs.declared.response.Response.{Response};
+ghost use Rattle.uss_http_response.specs.Responses as response;
+ghost use Rattle.uss_law_http.specs.Found.{IsByTheBytes, IsResponseByTheBytes};
 
 /// The same bytes have one answer: one request at their front, or one reason why there is none, and not both. The
 /// function does nothing: its contract carries the law.
@@ -26,4 +28,10 @@ pub fn one_body()
     ensures bodies { (framing : Framing) (bytes b c : List ℕ) → IsBody framing bytes b → IsBody framing bytes c → b ≡ c }
     ensures accepted { (framing : Framing) (bytes b : List ℕ) (e : ReadRefusal) → IsBody framing bytes b → IsRefusedBody framing bytes e → ⊥ }
     ensures reasons { (framing : Framing) (bytes : List ℕ) (d e : ReadRefusal) → IsRefusedBody framing bytes d → IsRefusedBody framing bytes e → d ≡ e }
+{}
+
+/// The same bytes up to the end of a stream have one answer as a response: one response at their front, or one reason why
+/// there is none, and not both.
+pub fn one_response()
+    ensures { (bytes : List ℕ) (a b : Result Response ReadRefusal) → IsResponseByTheBytes a → IsResponseByTheBytes b → response.IsAnswerOf bytes a → response.IsAnswerOf bytes b → a ≡ b }
 {}

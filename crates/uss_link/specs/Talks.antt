@@ -1,5 +1,5 @@
 -- What a dial does to the streams that are opened over it, where it tells of them. This project's own.
-use Rattle.std.specs.Prelude.{◌≡◌, ◌==◌, ℕ, ◌≤◌, ◌<◌, nat_lt, Bool, false, ◌&&◌, ◌||◌, List, [], ◌∷◌, ◌++◌, length, take, Option, Some, Result, IfOk, MatchResult, IsTrue}
+use Rattle.std.specs.Prelude.{◌≡◌, ◌==◌, ℕ, ◌≤◌, ◌<◌, nat_lt, Bool, false, ◌&&◌, ◌||◌, List, [], ◌∷◌, ◌++◌, length, take, Option, Some, None, Result, IfOk, MatchResult, IsTrue}
 
 -- one stream: the host and the port that it was opened to, the bytes sent and received over it, and whether its
 -- end was given
@@ -48,10 +48,11 @@ pub record Gives (talks : List Talk) (after : Option (List Talk)) (buffer filled
   pub are : after ≡ Some (earlier ++ with_received (take n filled) (n == 0 && nat_lt 0 (length buffer)) last ∷ [])
   pub ended : IsTrue last.ended → n ≡ 0
 
--- what receiving does; a fault gives no bytes
+-- what receiving does; a fault gives no bytes. A dial that doesn't tell doesn't begin to.
 pub record Receives {E : Type 0} (before after : Option (List Talk)) (buffer filled : List ℕ) (answer : Result ℕ E) : Type 0 where
   pub within : IfOk answer (λ n. n ≤ length buffer)
   pub told : (talks : List Talk) → before ≡ Some talks → MatchResult answer (Gives talks after buffer filled) (λ _. after ≡ Some talks)
+  pub untold : before ≡ None → after ≡ None
 
 -- of these bytes the first n were sent over the stream opened last
 pub record SentFront (talks : List Talk) (after : Option (List Talk)) (bytes : List ℕ) (n : ℕ) : Type 0 where

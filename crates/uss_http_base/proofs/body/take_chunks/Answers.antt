@@ -1,4 +1,5 @@
 use Rattle.std.proofs.Common.{refl, arith}
+use Rattle.uss_http_base.proofs.Passing.{hears_then}
 use Rattle.uss_http_base.proofs.BodySteps.{chunks_more, chunks_end, chunk_missing}
 use Rattle.uss_http_base.proofs.body.take_chunks.Goals as goal
 
@@ -8,6 +9,7 @@ chunks-preserved g c =
     record {
       within = one.within;
       taken = chunks_more g.T.Stream.gave c.args.stream.now c.chunks.stream c.take_chunk.new.stream c.args.intake.now c.chunks.intake c.take_chunk.new.intake c.chunks.body.items c.take_chunk.new.body.items c.chunks.invariant.taken one;
+      heard = hears_then c.chunks.invariant.heard c.take_chunk.ensures.heard;
       kept = omega (arith, c.chunks.invariant.kept, c.take_chunk.ensures.kept);
     }
 

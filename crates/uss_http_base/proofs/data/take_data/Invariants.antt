@@ -1,5 +1,5 @@
 use Rattle.std.proofs.Common.{◌≡◌, ◌≤◌, ◌<◌, ◌-◌, []}
-use Rattle.uss_http_base.specs.Streams.{Moves}
+use Rattle.uss_http_base.specs.Streams.{Hears, Moves}
 use Rattle.uss_http_base.proofs.data.take_data.Given as goal
 
 abbrev pub invariant-moving : goal.invariant-moving
@@ -7,6 +7,7 @@ invariant-moving g l = record {
   some_left : l.missing ≤ l.count;
   moves : Moves g.T.Stream.gave l.fn.stream l.fn.intake l.stream l.intake l.fn.body.items l.body.items (l.count - l.missing);
   empty : 0 < l.missing → l.intake ≡ [];
+  heard : Hears g.T.Stream.gave l.fn.stream l.stream;
   kept : g.T.Stream.faults l.fn.stream ≤ g.T.Stream.faults l.stream;
 }
 

@@ -1,0 +1,136 @@
+use super::*;
+use std::alloc::Global;
+use std::test::Fail;
+use uss_intent::Name;
+use uss_link::{Dial, MemoryDial, MemorySink, MemorySource, Reply};
+
+fn bytes(alloc: Global, text: &str) -> Result<Bytes, Fail> {
+    Ok(Bytes::from_vec(Vec::from_slice(alloc, text.as_bytes())?))
+}
+
+const SENT: &str =
+    "PUT /dss/v1/subscriptions/query?x HTTP/1.1\r\nHost: b.example:81\r\nUSS-Client: uss1\r\n\
+Content-Type: application/json\r\nContent-Length: 2\r\nConnection: close\r\n\r\n{}";
+
+/// A request.
+fn request(alloc: Global) -> Result<Request, Fail> {
+    Ok(Request {
+        method: bytes(alloc, "PUT")?,
+        path: bytes(alloc, "/dss/v1/subscriptions/query?x")?,
+        client: Name::of(alloc, b"uss1")?,
+        body: bytes(alloc, "{}")?,
+    })
+}
+
+/// What is sent of the request over a dial of whose calls the one with this number fails, and whether all of it was.
+fn sent(alloc: Global, failing: u64) -> Result<(bool, Vec<u8>), Fail> {
+    let mut dial = MemoryDial::new(alloc, Vec::new(alloc))
+        .failing_at(vec![in alloc; failing]?)
+        .in_pieces_of(9);
+    let reached = dial.reach("b.example", 81).is_ok();
+    let written = write_request(alloc, &mut dial, b"b.example:81", &request(alloc)?).is_ok();
+    let talk = dial.last().ok_or("nothing was opened")?;
+    Ok((reached && written, Vec::from_slice(alloc, talk.sent())?))
+}
+
+/// Whether these bytes are read as the request.
+fn is_request(alloc: Global, text: &str) -> Result<bool, Fail> {
+    let mut source = MemorySource::new(
+        alloc,
+        Vec::from_slice(alloc, text.as_bytes())?,
+    ).in_pieces_of(4);
+    match read_request(alloc, &mut source) {
+        Ok(found) => Ok(
+            found.method.as_slice() == b"PUT".as_slice()
+                && found.path.as_slice() == b"/dss/v1/subscriptions/query?x".as_slice()
+                && found.client.as_bytes() == b"uss1".as_slice()
+                && found.body.as_slice() == b"{}".as_slice(),
+        ),
+        Err(_) => Ok(false),
+    }
+}
+
+#[test]
+fn requests_that_are_sent_are_read_again(rt: HostRuntime) -> Result<(), Fail> {
+    let alloc = rt.alloc();
+    let (whole, all) = sent(alloc, 0)?;
+    assert!(rt; whole && all.as_slice() == SENT.as_bytes());
+    assert!(rt; is_request(alloc, SENT)?);
+    // the third piece fails
+    let (rest, front) = sent(alloc, 4)?;
+    assert!(rt; !rest && front.as_slice() == &SENT.as_bytes()[..18]);
+    Ok(())
+}
+
+/// Statuses, bodies, and the responses that are written of them.
+const RESPONSES: [(u16, &str, &str); 3] = [
+    (
+        404,
+        "{\"a\":1}",
+        "HTTP/1.1 404 Not Found\r\nContent-Type: application/json\r\nContent-Length: 7\r\n\
+Connection: close\r\n\r\n{\"a\":1}",
+    ),
+    (
+        204,
+        "",
+        "HTTP/1.1 204 No Content\r\nConnection: close\r\n\r\n",
+    ),
+    (
+        209,
+        "",
+        "HTTP/1.1 209 \r\nContent-Type: application/json\r\nContent-Length: 0\r\nConnection: close\r\n\r\n",
+    ),
+];
+
+/// Whether the response is written so, and whether a front of it is where the third call fails.
+fn is_written(alloc: Global, status: u16, body: &str, text: &str) -> Result<bool, Fail> {
+    let response = Response {
+        status,
+        body: bytes(alloc, body)?,
+    };
+    let mut sink = MemorySink::new(alloc).in_pieces_of(5);
+    let whole = write_response(&mut sink, &response).is_ok();
+    let mut broken = MemorySink::new(alloc)
+        .failing_at(vec![in alloc; 3]?)
+        .in_pieces_of(5);
+    let failed = write_response(&mut broken, &response).is_err();
+    Ok(
+        whole
+            && failed
+            && sink.taken() == text.as_bytes()
+            && text.as_bytes().starts_with(broken.taken()),
+    )
+}
+
+/// Whether these bytes, which come one at a time, are read as this response.
+fn is_response(alloc: Global, text: &str, status: u16, body: &str) -> Result<bool, Fail> {
+    let mut replies = Vec::new(alloc);
+    replies.push(Reply::new(Vec::from_slice(alloc, text.as_bytes())?))?;
+    let mut dial = MemoryDial::new(alloc, replies).in_pieces_of(1);
+    let reached = dial.reach("b.example", 81).is_ok();
+    match read_response(alloc, &mut dial) {
+        Ok(found) => Ok(
+            reached && found.status == status && found.body.as_slice() == body.as_bytes(),
+        ),
+        Err(_) => Ok(false),
+    }
+}
+
+#[test]
+fn responses_that_are_written_are_read_again(rt: HostRuntime) -> Result<(), Fail> {
+    let alloc = rt.alloc();
+    for (status, body, text) in RESPONSES {
+        assert!(rt; is_written(alloc, status, body, text)?, "{text}");
+        assert!(rt; is_response(alloc, text, status, body)?, "{text}");
+    }
+    Ok(())
+}
+
+#[test]
+fn a_stream_that_fails_is_a_fault_of_the_dial(rt: HostRuntime) -> Result<(), Fail> {
+    let alloc = rt.alloc();
+    let mut dial = MemoryDial::new(alloc, Vec::new(alloc));
+    // no stream is open
+    assert!(rt; matches!(read_response(alloc, &mut dial), Err(HttpRefusal::DialFault)));
+    Ok(())
+}

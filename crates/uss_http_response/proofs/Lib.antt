@@ -1,0 +1,3 @@
+pub mod Room
+pub mod HeadSteps
+pub mod ResponseSteps

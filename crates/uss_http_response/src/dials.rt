@@ -1,0 +1,21 @@
+ghost use Rattle.std.specs.Prelude.{◌≡◌, ◌≤◌, List, Some, Err};
+ghost use Rattle.uss_cause.specs.Cause.{Rose};
+ghost use Rattle.uss_link.specs.Talks.{Talk};
+ghost use Rattle.uss_http_response.specs.Dials.{IsReceived};
+
+use crate::response::{Response, take_response};
+use std::alloc::Global;
+use uss_http_base::ReadRefusal;
+use uss_link::Dial;
+
+/// Reads one response over the open stream of a dial, of which nothing was received before. Where the dial tells what was
+/// received, the answer is that of all the bytes up to the end of the stream, those received now and whatever would have
+/// come behind them: the response at their front, or why there is none. Whatever the answer, nothing but what was received
+/// over the last stream changed.
+pub fn response_from<G: Dial>(alloc: Global, dial: &mut G) -> Result<Response, ReadRefusal>
+    ensures exact { (talks : List Talk) → G.talks dial.old ≡ Some talks → IsReceived talks (G.talks dial.new) result }
+    ensures kept { G.faults dial.old ≤ G.faults dial.new }
+    ensures fault { result ≡ Err ReadRefusal.Fault → Rose (G.faults dial.old) (G.faults dial.new) }
+{
+    take_response(alloc, dial)
+}

@@ -1,0 +1,34 @@
+ghost use Rattle.std.specs.Prelude.{◌≡◌, ◌≤◌, Err, IfOk, IfErr};
+ghost use Rattle.uss_cause.specs.Cause.{Rose};
+ghost use Rattle.uss_http_base.specs.Streams.{Hears};
+ghost use Rattle.uss_http_response.specs.Answers.{TakesRest, MissesRest};
+
+use std::alloc::{AllocError, Global};
+use uss_http_base::{BODY_LIMIT, Intake, PIECE_LIMIT, ReadRefusal, Stream, piece_refusal};
+
+/// Takes all the bytes up to the end of the stream: those not yet used, and then the next ones.
+#[tactic(auto, using(uss_http_base::proofs::Passing::hears_then, uss_http_base::proofs::Passing::hears_same))]
+pub fn take_rest<K, T: Stream<K>>(
+    alloc: Global,
+    stream: &mut T,
+    intake: &mut Intake,
+) -> Result<Vec<u8>, ReadRefusal>
+    ensures taken { IfOk result (λ body. TakesRest T.gave T.ended stream.old intake.old stream.new body.items) }
+    ensures refused { IfErr result (MissesRest T.gave stream.old intake.old stream.new) }
+    ensures kept { T.faults stream.old ≤ T.faults stream.new }
+    ensures heard { Hears T.gave stream.old stream.new }
+    ensures fault { result ≡ Err ReadRefusal.Fault → Rose (T.faults stream.old) (T.faults stream.new) }
+{
+    let mut body = match Vec::from_slice(alloc, intake.as_slice()) {
+        Ok(body) => body,
+        Err(AllocError) => return Err(ReadRefusal::Memory),
+    };
+    'taking: while body.len() <= BODY_LIMIT {
+        match intake.read_past(stream, PIECE_LIMIT, &mut body) {
+            Ok(0) => return Ok(body),
+            Ok(_) => {}
+            Err(halt) => return Err(piece_refusal(halt)),
+        }
+    }
+    Err(ReadRefusal::BodyTooLarge)
+}
