@@ -1,6 +1,6 @@
 -- References that are written are read again.
 use Rattle.std.proofs.Common.{◌≡◌, ◌^◌, ℕ, ◌<◌, ◌≤◌, Bool, true, false, List, [], ◌∷◌, length, Some, None, Ok, Err, Result, refl, sym, ap, ◌∙◌, arith, ⊎_elim}
-use Rattle.std.specs.Prelude.{Option, nat_lt, nat_le, bytes_eq, IsTrue, if◌then◌else◌}
+use Rattle.std.specs.Prelude.{Option, nat_lt, nat_le, ◌==◌, ◌≢◌, bytes_eq, IsTrue, if◌then◌else◌}
 use Rattle.std.proofs.lemmas.Bool.{cond-true, cond-false, cases_Bool}
 use Rattle.std.proofs.lemmas.Bool.Decides.{nat_tests}
 use Rattle.serde_json.specs.Data.{Data, object, member, string}
@@ -17,7 +17,9 @@ use Rattle.uss_wire_intent.specs.Texts.{ovn_at}
 use Rattle.uss_wire_intent.specs.References.{front_at, back_at, dropped_ovn, ovn_for, answered_reference_at, references_at}
 use Rattle.uss_wire_intent.specs.Writing.{identifier_json, with_ovn, behind_ovn, reference_json}
 use Rattle.uss_wire_intent.proofs.Again.{base_again, name_again, ovn_again, identifier_again, state_again}
-use Rattle.uss_wire_answer.specs.Writing.{query_answer_json, get_answer_json, ShowsOvn, IsReadable}
+use Rattle.uss_wire_answer.specs.declared.errors.ErrorBody.{ErrorBody}
+use Rattle.uss_wire_answer.specs.Answers.{error_at}
+use Rattle.uss_wire_answer.specs.Writing.{query_answer_json, get_answer_json, error_json, ShowsOvn, IsReadable, IsReadableError}
 
 below_true : (n limit : ℕ) → n < limit → nat_lt n limit ≡ true
 below_true n limit h = grind (arith, nat_tests)
@@ -69,3 +71,16 @@ pub references_again : (client : List ℕ) (m : Member) (rs : List Reference) �
 unfolding references_at
 references_again client m rs all few =
     rw (list_length reference_json rs, le_true (length rs) 4096 few) (list_again reference_json (answered_reference_at client m) (IsReadable client) (reference_again client m) rs all)
+
+-- ---- errors
+other_number : (n : ℕ) → (n == 209) ≡ false → n ≢ 209
+other_number n h = λ same. grind (arith, nat_tests)
+
+error_with : (client : List ℕ) (e : ErrorBody) (b : Bool) → (e.refusal == 209) ≡ b → IsReadableError client e → error_at client Whole (error_json e) ≡ Ok e
+unfolding error_at error_json name
+error_with client e true is h = rw (is, below_true e.refusal (2 ^ 16) h.refusal, is, references_again client _ e.missing h.each h.few) refl
+error_with client e false is h =
+    rw (is, below_true e.refusal (2 ^ 16) h.refusal, is) (ap (λ (missing : List Reference). Ok (record { message = e.message; refusal = e.refusal; missing = missing })) (sym (h.only (other_number e.refusal is))))
+
+pub error_again : (client : List ℕ) (e : ErrorBody) → IsReadableError client e → error_at client Whole (error_json e) ≡ Ok e
+error_again client e h = error_with client e (e.refusal == 209) refl h

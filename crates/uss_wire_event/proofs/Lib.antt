@@ -1,0 +1,4 @@
+pub mod Shown
+pub mod Timed
+pub mod Plain
+pub mod Reread

@@ -1,0 +1,3 @@
+pub mod Intents
+pub mod Asks
+pub mod Writing
