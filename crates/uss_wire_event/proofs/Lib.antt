@@ -2,3 +2,4 @@ pub mod Shown
 pub mod Timed
 pub mod Plain
 pub mod Reread
+pub mod PlainOutcomes

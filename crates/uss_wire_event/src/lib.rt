@@ -8,12 +8,14 @@
 mod asks;
 mod intents;
 mod notes;
+mod outcomes;
 mod times;
 mod volumes;
 mod writing;
 
 pub use asks::{read_asks, read_positions};
 pub use notes::{read_details_answer, read_notification};
+pub use outcomes::{write_outcome, write_swept};
 pub use writing::{
     messages_are_read_again, write_asks, write_details_answer, write_notification, write_positions,
 };
