@@ -1,7 +1,7 @@
 -- The answers that are written: no fraction, and not deep.
-use Rattle.std.proofs.Common.{◌≡◌, ℕ, ◌+◌, ◌<◌, ◌≤◌, Bool, true, false, List, Some, None, refl, arith}
-use Rattle.std.specs.Prelude.{Option, ◌==◌, codes, if◌then◌else◌}
-use Rattle.serde_json.specs.Data.{Data, depth, Members, member, no_members, members_depth, number, unsigned}
+use Rattle.std.proofs.Common.{◌≡◌, ◌≤◌, Bool, true, false, List, refl, arith}
+use Rattle.std.specs.Prelude.{◌==◌, codes, if◌then◌else◌}
+use Rattle.serde_json.specs.Data.{depth, Members, member, no_members, members_depth, number, unsigned}
 use Rattle.serde_json.specs.Written.{has_float, members_have_float}
 use Rattle.uss_intent.specs.declared.records.Reference.{Reference}
 use Rattle.uss_intent.specs.declared.records.Subscriber.{Subscriber}

@@ -1,5 +1,5 @@
 -- The answers of the discovery service as they are written: their members ascending by name.
-use Rattle.std.specs.Prelude.{◌≡◌, ◌≢◌, ◌<◌, ◌≤◌, ◌^◌, ◌==◌, ℕ, List, [], Bool, true, Option, Some, None, IsTrue, length, bytes_eq, codes, if◌then◌else◌}
+use Rattle.std.specs.Prelude.{◌≡◌, ◌≢◌, ◌<◌, ◌≤◌, ◌^◌, ◌==◌, ℕ, List, [], true, Option, Some, None, IsTrue, length, bytes_eq, codes, if◌then◌else◌}
 use Rattle.serde_json.specs.Data.{Data, object, member, Members, no_members, number, unsigned, string}
 use Rattle.uss_intent.specs.declared.records.Reference.{Reference}
 use Rattle.uss_intent.specs.declared.records.Subscriber.{Subscriber}
@@ -42,6 +42,11 @@ pub record IsReadable (client : List ℕ) (r : Reference) : Type 0 where
   pub end : is_instant r.end ≡ true
   pub base : IsBase r.base
   pub ticket : r.ticket < 2 ^ 128
+
+-- one who is to be told, as a reader can give it
+pub record IsReadableSubscriber (s : Subscriber) : Type 0 where
+  pub base : IsBase s.base
+  pub ticket : s.ticket < 2 ^ 128
 
 -- an error as a reader of this client's can give it
 pub record IsReadableError (client : List ℕ) (e : ErrorBody) : Type 0 where

@@ -1,7 +1,7 @@
 -- What is written has no fraction, and isn't deep.
-use Rattle.std.proofs.Common.{◌≡◌, ℕ, ◌+◌, ◌<◌, ◌≤◌, false, List, Some, None, refl, arith}
+use Rattle.std.proofs.Common.{◌≡◌, ℕ, ◌≤◌, false, Some, None, refl, arith}
 use Rattle.std.specs.Prelude.{Option}
-use Rattle.serde_json.specs.Data.{Data, object, depth, Members, members_depth}
+use Rattle.serde_json.specs.Data.{depth, Members, members_depth}
 use Rattle.serde_json.specs.Written.{has_float, members_have_float}
 use Rattle.uss_event.specs.declared.calls.Note.{Note}
 use Rattle.uss_event.specs.declared.details.Details.{Details}

@@ -1,5 +1,5 @@
 -- What is written of outcomes has no fraction, and isn't deep.
-use Rattle.std.proofs.Common.{◌≡◌, ℕ, ◌≤◌, refl, arith}
+use Rattle.std.proofs.Common.{ℕ, refl, arith}
 use Rattle.uss_outcome.specs.declared.outcome.Outcome.{Outcome}
 use Rattle.uss_wire_base.specs.Writing.{IsPlain}
 use Rattle.uss_wire_event.specs.Outcomes.{outcome_json, swept_json}

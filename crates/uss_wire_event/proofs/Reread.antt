@@ -1,9 +1,9 @@
 -- What is written is read again.
-use Rattle.std.proofs.Common.{◌≡◌, ◌^◌, ℕ, ◌<◌, ◌≤◌, true, false, List, Some, None, Ok, Err, Result, refl, sym, ap, ◌∙◌, arith}
-use Rattle.std.specs.Prelude.{Option, ◌&&◌, not, nat_lt, nat_le, if◌then◌else◌, is_some, is_none, map}
+use Rattle.std.proofs.Common.{◌≡◌, ◌^◌, ℕ, ◌<◌, true, List, Some, None, Ok, refl, ap, ◌∙◌, arith}
+use Rattle.std.specs.Prelude.{Option, nat_lt, is_some, is_none, map}
 use Rattle.std.proofs.lemmas.Bool.{and_parts}
 use Rattle.std.proofs.lemmas.Bool.Decides.{nat_tests}
-use Rattle.serde_json.specs.Data.{Data, object}
+use Rattle.serde_json.specs.Data.{object}
 use Rattle.serde_json.specs.View.{items_of}
 use Rattle.uss_vol4.specs.Volume.{Volume4D, IsVolume}
 use Rattle.uss_intent.specs.declared.records.Reference.{Reference}
@@ -18,7 +18,7 @@ use Rattle.uss_event.specs.declared.asks.PositionAsk.{PositionAsk}
 use Rattle.uss_event.specs.declared.refusals.DetailsRefusal.{DetailsRefusal}
 use Rattle.uss_event.specs.Plans.{is_plan, extents_of, is_least_start, is_greatest_end}
 use Rattle.uss_event.specs.Pairs.{OperationalIntent, is_pair}
-use Rattle.uss_event.specs.Refusals.{refusal_of, unless_refused, details_from}
+use Rattle.uss_event.specs.Refusals.{refusal_of, unless_refused}
 use Rattle.uss_event.proofs.Accepted.{plan_unless_refused}
 use Rattle.uss_wire_base.specs.Names.{name}
 use Rattle.uss_wire_base.specs.declared.refusal.Member.{Member}

@@ -1,6 +1,6 @@
 -- A reference and details that its state allows are a pair exactly where the times fit.
 use Rattle.std.proofs.Common.{◌≡◌, Bool, true, false, Some, None, Ok, Err, refl, arith}
-use Rattle.std.specs.Prelude.{Option, not, if◌then◌else◌, is_some}
+use Rattle.std.specs.Prelude.{not, if◌then◌else◌, is_some}
 use Rattle.uss_intent.specs.declared.records.Reference.{Reference}
 use Rattle.uss_event.specs.declared.details.Details.{Details}
 use Rattle.uss_event.specs.Plans.{is_plan, extents_of, is_least_start, is_greatest_end}

@@ -1,7 +1,7 @@
 -- How operational intents are read, and the messages that carry them: the answer to a question for details, and the notification of a
 -- change (OperationalIntent, OperationalIntentDetails, GetOperationalIntentDetailsResponse and PutOperationalIntentDetailsParameters of
 -- the OpenAPI annex of ASTM F3548-21). The limits and the order of the refusals are this project's own.
-use Rattle.std.specs.Prelude.{ℕ, ◌^◌, List, [], not, Option, Result, Ok, Err, if◌then◌else◌}
+use Rattle.std.specs.Prelude.{ℕ, ◌^◌, List, [], not, Result, Ok, Err, if◌then◌else◌}
 use Rattle.uss_vol4.specs.Volume.{Volume4D}
 use Rattle.uss_intent.specs.declared.records.State.{State}
 use Rattle.uss_intent.specs.declared.records.Reference.{Reference}

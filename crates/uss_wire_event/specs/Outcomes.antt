@@ -1,5 +1,5 @@
 -- What came of a request and of a sweep, as it is written for the operator. This project's own.
-use Rattle.std.specs.Prelude.{ℕ, List, codes}
+use Rattle.std.specs.Prelude.{ℕ, codes}
 use Rattle.serde_json.specs.Data.{Data, object, member, no_members, number, unsigned, string}
 use Rattle.uss_outcome.specs.declared.outcome.Outcome.{Outcome}
 use Rattle.uss_outcome.specs.Outcomes.{outcome_text}

@@ -3,7 +3,6 @@ use Rattle.std.specs.Prelude.{◌≡◌, ◌<◌, ◌^◌, ℕ, List, true, Opti
 use Rattle.serde_json.specs.Data.{Data, object, member, Members, no_members, number, unsigned, string, array, no_items, item}
 use Rattle.serde_json.specs.Find.{of_integer}
 use Rattle.uss_vol4.specs.Volume.{IsVolume}
-use Rattle.uss_intent.specs.declared.records.Reference.{Reference}
 use Rattle.uss_intent.specs.States.{state_text}
 use Rattle.uss_intent.specs.Texts.{IsName, IsBase, IsOvn}
 use Rattle.uss_event.specs.declared.calls.Note.{Note}
