@@ -1,31 +1,16 @@
 -- The answers that are written: no fraction, and not deep.
-use Rattle.std.proofs.Common.{◌≡◌, ℕ, ◌+◌, ◌<◌, ◌≤◌, Bool, true, false, List, Some, None, refl, arith}
-use Rattle.std.specs.Prelude.{Option}
-use Rattle.serde_json.specs.Data.{Data, depth, Members, members_depth}
+use Rattle.std.proofs.Common.{◌≡◌, ◌≤◌, Bool, true, false, List, refl, arith}
+use Rattle.std.specs.Prelude.{◌==◌, codes, if◌then◌else◌}
+use Rattle.serde_json.specs.Data.{depth, Members, member, no_members, members_depth, number, unsigned}
 use Rattle.serde_json.specs.Written.{has_float, members_have_float}
 use Rattle.uss_intent.specs.declared.records.Reference.{Reference}
 use Rattle.uss_intent.specs.declared.records.Subscriber.{Subscriber}
-use Rattle.uss_wire_base.specs.Writing.{IsPlain}
+use Rattle.uss_wire_base.specs.Writing.{IsPlain, list_json}
 use Rattle.uss_wire_base.proofs.Again.{list_whole, list_shallow}
-use Rattle.uss_wire_volume.proofs.Again.{time_whole, time_shallow}
-use Rattle.uss_wire_intent.specs.Writing.{reference_json, with_ovn, behind_ovn, subscriber_json, told_json}
-use Rattle.uss_wire_answer.specs.Writing.{query_answer_json, get_answer_json, change_answer_json}
-
-with_ovn_whole : (ovn : Option (List ℕ)) (ms : Members) → members_have_float ms ≡ false → members_have_float (with_ovn ovn ms) ≡ false
-with_ovn_whole None ms h = h
-with_ovn_whole (Some o) ms h = h
-
-with_ovn_shallow : (ovn : Option (List ℕ)) (ms : Members) (n : ℕ) → members_depth ms ≤ n → members_depth (with_ovn ovn ms) ≤ n
-with_ovn_shallow None ms n h = h
-with_ovn_shallow (Some o) ms n h = omega arith
-
-reference_whole : (r : Reference) → has_float (reference_json r) ≡ false
-unfolding reference_json
-reference_whole r = with_ovn_whole r.ovn (behind_ovn r) (rw (time_whole r.end, time_whole r.start) refl)
-
-reference_shallow : (r : Reference) → depth (reference_json r) ≤ 2
-unfolding reference_json
-reference_shallow r = let a = time_shallow r.end in let b = time_shallow r.start in let c = with_ovn_shallow r.ovn (behind_ovn r) 1 (omega arith) in omega arith
+use Rattle.uss_wire_intent.specs.Writing.{reference_json, subscriber_json, told_json}
+use Rattle.uss_wire_intent.proofs.Again.{reference_whole, reference_shallow}
+use Rattle.uss_wire_answer.specs.declared.errors.ErrorBody.{ErrorBody}
+use Rattle.uss_wire_answer.specs.Writing.{query_answer_json, get_answer_json, change_answer_json, error_json}
 
 subscriber_whole : (s : Subscriber) → has_float (subscriber_json s) ≡ false
 unfolding subscriber_json told_json
@@ -48,4 +33,19 @@ unfolding change_answer_json
 change_answer_plain r ss = record {
   whole = rw (reference_whole r, list_whole subscriber_json subscriber_whole ss) refl;
   shallow = (let h = reference_shallow r in let k = list_shallow subscriber_json 3 subscriber_shallow ss in omega arith);
+}
+
+missing_whole : (b : Bool) (rs : List Reference) (ms : Members) → members_have_float ms ≡ false → members_have_float (if b then member (codes "missing_operational_intents") (list_json reference_json rs) ms else ms) ≡ false
+missing_whole true rs ms h = rw (list_whole reference_json reference_whole rs) h
+missing_whole false rs ms h = h
+
+missing_shallow : (b : Bool) (rs : List Reference) (ms : Members) → members_depth ms ≤ 3 → members_depth (if b then member (codes "missing_operational_intents") (list_json reference_json rs) ms else ms) ≤ 3
+missing_shallow true rs ms h = let k = list_shallow reference_json 2 reference_shallow rs in omega arith
+missing_shallow false rs ms h = h
+
+pub error_plain : (e : ErrorBody) → IsPlain (error_json e)
+unfolding error_json
+error_plain e = record {
+  whole = missing_whole (e.refusal == 209) e.missing (member (codes "refusal") (number (unsigned e.refusal)) no_members) refl;
+  shallow = (let h = missing_shallow (e.refusal == 209) e.missing (member (codes "refusal") (number (unsigned e.refusal)) no_members) (omega arith) in omega arith);
 }

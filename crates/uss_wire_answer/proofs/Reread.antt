@@ -1,23 +1,24 @@
 -- References that are written are read again.
-use Rattle.std.proofs.Common.{◌≡◌, ◌^◌, ℕ, ◌<◌, ◌≤◌, Bool, true, false, List, [], ◌∷◌, length, Some, None, Ok, Err, Result, refl, sym, ap, ◌∙◌, arith, ⊎_elim}
-use Rattle.std.specs.Prelude.{Option, nat_lt, nat_le, bytes_eq, IsTrue, if◌then◌else◌}
-use Rattle.std.proofs.lemmas.Bool.{cond-true, cond-false, cases_Bool}
+use Rattle.std.proofs.Common.{◌≡◌, ◌^◌, ℕ, ◌<◌, ◌≤◌, Bool, true, false, List, [], ◌∷◌, length, Some, None, Ok, Result, refl, sym, ap, ◌∙◌, arith}
+use Rattle.std.specs.Prelude.{Option, map, nat_lt, nat_le, ◌==◌, ◌≢◌, bytes_eq, if◌then◌else◌}
 use Rattle.std.proofs.lemmas.Bool.Decides.{nat_tests}
-use Rattle.serde_json.specs.Data.{Data, object, member, string}
+use Rattle.serde_json.specs.View.{items_of}
 use Rattle.uss_intent.specs.declared.records.Reference.{Reference}
+use Rattle.uss_intent.specs.declared.records.Subscriber.{Subscriber}
 use Rattle.uss_wire_base.specs.Names.{name}
 use Rattle.uss_wire_base.specs.declared.refusal.Member.{Member}
-use Rattle.uss_wire_base.specs.declared.refusal.Member.TheVariants.{Whole, Ovn, OperationalIntentReferences, OperationalIntentReference}
+use Rattle.uss_wire_base.specs.declared.refusal.Member.TheVariants.{Whole}
 use Rattle.uss_wire_base.specs.declared.refusal.WireRefusal.{WireRefusal}
-use Rattle.uss_wire_base.specs.Reading.{optional, natural_below}
+use Rattle.uss_wire_base.specs.Reading.{◌>>=◌, each}
 use Rattle.uss_wire_base.specs.Writing.{AllOf, list_json}
 use Rattle.uss_wire_base.proofs.Again.{list_again, list_length}
 use Rattle.uss_wire_volume.proofs.Again.{time_again}
-use Rattle.uss_wire_intent.specs.Texts.{ovn_at}
-use Rattle.uss_wire_intent.specs.References.{front_at, back_at, dropped_ovn, ovn_for, answered_reference_at, references_at}
-use Rattle.uss_wire_intent.specs.Writing.{identifier_json, with_ovn, behind_ovn, reference_json}
+use Rattle.uss_wire_intent.specs.References.{front_at, back_at, answered_reference_at, references_at}
+use Rattle.uss_wire_intent.specs.Writing.{reference_json, told_json, subscriber_json}
 use Rattle.uss_wire_intent.proofs.Again.{base_again, name_again, ovn_again, identifier_again, state_again}
-use Rattle.uss_wire_answer.specs.Writing.{query_answer_json, get_answer_json, ShowsOvn, IsReadable}
+use Rattle.uss_wire_answer.specs.declared.errors.ErrorBody.{ErrorBody}
+use Rattle.uss_wire_answer.specs.Answers.{flatten, told_at, subscriber_at, subscribers_at, change_answer_at, error_at}
+use Rattle.uss_wire_answer.specs.Writing.{change_answer_json, error_json, ShowsOvn, IsReadable, IsReadableSubscriber, IsReadableError}
 
 below_true : (n limit : ℕ) → n < limit → nat_lt n limit ≡ true
 below_true n limit h = grind (arith, nat_tests)
@@ -69,3 +70,46 @@ pub references_again : (client : List ℕ) (m : Member) (rs : List Reference) �
 unfolding references_at
 references_again client m rs all few =
     rw (list_length reference_json rs, le_true (length rs) 4096 few) (list_again reference_json (answered_reference_at client m) (IsReadable client) (reference_again client m) rs all)
+
+-- ---- those that are to be told
+told_again : (place : Member) (s : Subscriber) → s.ticket < 2 ^ 128 → told_at place (told_json s) ≡ Ok (record { ticket = s.ticket; index = s.index })
+unfolding told_at told_json name
+told_again place s h = rw (identifier_again _ s.ticket h) refl
+
+subscriber_again : (place : Member) (s : Subscriber) → IsReadableSubscriber s → subscriber_at place (subscriber_json s) ≡ Ok (s ∷ [])
+unfolding subscriber_at subscriber_json name
+subscriber_again place s h = rw (told_again _ s h.ticket, base_again _ s.base h.base) refl
+
+abbrev alone : Subscriber → List Subscriber
+alone s = s ∷ []
+
+each_alone : (m : Member) (ss : List Subscriber) → AllOf IsReadableSubscriber ss → each (subscriber_at m) (items_of (map subscriber_json ss)) ≡ Ok (map alone ss)
+each_alone m [] all = refl
+each_alone m (s ∷ ss) all =
+    ap (λ r. r >>= λ y. each (subscriber_at m) (items_of (map subscriber_json ss)) >>= λ ys. Ok (y ∷ ys)) (subscriber_again m s all.0) ∙ ap (λ r. r >>= λ ys. Ok (alone s ∷ ys)) (each_alone m ss all.1)
+
+flatten_alone : (ss : List Subscriber) → flatten (map alone ss) ≡ ss
+flatten_alone [] = refl
+flatten_alone (s ∷ ss) = ap (λ (rest : List Subscriber). s ∷ rest) (flatten_alone ss)
+
+subscribers_again : (m : Member) (ss : List Subscriber) → AllOf IsReadableSubscriber ss → length ss ≤ 8192 → subscribers_at m (list_json subscriber_json ss) ≡ Ok ss
+unfolding subscribers_at
+subscribers_again m ss all few =
+    rw (list_length subscriber_json ss, le_true (length ss) 8192 few, each_alone m ss all, flatten_alone ss, le_true (length ss) 8192 few) refl
+
+pub change_again : (client : List ℕ) (r : Reference) (ss : List Subscriber) → IsReadable client r → AllOf IsReadableSubscriber ss → length ss ≤ 8192 → change_answer_at client Whole (change_answer_json r ss) ≡ Ok (r, ss)
+unfolding change_answer_at change_answer_json name
+change_again client r ss h all few = rw (subscribers_again _ ss all few, reference_again client _ r h) refl
+
+-- ---- errors
+other_number : (n : ℕ) → (n == 209) ≡ false → n ≢ 209
+other_number n h = λ same. grind (arith, nat_tests)
+
+error_with : (client : List ℕ) (e : ErrorBody) (b : Bool) → (e.refusal == 209) ≡ b → IsReadableError client e → error_at client Whole (error_json e) ≡ Ok e
+unfolding error_at error_json name
+error_with client e true is h = rw (is, below_true e.refusal (2 ^ 16) h.refusal, is, references_again client _ e.missing h.each h.few) refl
+error_with client e false is h =
+    rw (is, below_true e.refusal (2 ^ 16) h.refusal, is) (ap (λ (missing : List Reference). Ok (record { message = e.message; refusal = e.refusal; missing = missing })) (sym (h.only (other_number e.refusal is))))
+
+pub error_again : (client : List ℕ) (e : ErrorBody) → IsReadableError client e → error_at client Whole (error_json e) ≡ Ok e
+error_again client e h = error_with client e (e.refusal == 209) refl h

@@ -1,12 +1,13 @@
 -- The answers of the discovery service as they are written: their members ascending by name.
-use Rattle.std.specs.Prelude.{◌≡◌, ◌<◌, ◌^◌, ℕ, List, Bool, true, Option, Some, None, IsTrue, bytes_eq, codes}
-use Rattle.serde_json.specs.Data.{Data, object, member, no_members}
+use Rattle.std.specs.Prelude.{◌≡◌, ◌≢◌, ◌<◌, ◌≤◌, ◌^◌, ◌==◌, ℕ, List, [], true, Option, Some, None, IsTrue, length, bytes_eq, codes, if◌then◌else◌}
+use Rattle.serde_json.specs.Data.{Data, object, member, Members, no_members, number, unsigned, string}
 use Rattle.uss_intent.specs.declared.records.Reference.{Reference}
 use Rattle.uss_intent.specs.declared.records.Subscriber.{Subscriber}
 use Rattle.uss_intent.specs.Texts.{IsName, IsBase, IsOvn}
 use Rattle.uss_wire_base.specs.Instants.{is_instant}
-use Rattle.uss_wire_base.specs.Writing.{list_json}
+use Rattle.uss_wire_base.specs.Writing.{list_json, AllOf}
 use Rattle.uss_wire_intent.specs.Writing.{reference_json, subscriber_json}
+use Rattle.uss_wire_answer.specs.declared.errors.ErrorBody.{ErrorBody}
 
 unfoldable pub query_answer_json : List Reference → Data
 query_answer_json references = object (member (codes "operational_intent_references") (list_json reference_json references) no_members)
@@ -17,6 +18,14 @@ get_answer_json reference = object (member (codes "operational_intent_reference"
 unfoldable pub change_answer_json : Reference → List Subscriber → Data
 change_answer_json reference subscribers =
     object (member (codes "operational_intent_reference") (reference_json reference) (member (codes "subscribers") (list_json subscriber_json subscribers) no_members))
+
+-- the references that a key lacks stand in the error 209 alone
+abbrev pub with_missing : ℕ → List Reference → Members → Members
+with_missing refusal missing ms = if refusal == 209 then member (codes "missing_operational_intents") (list_json reference_json missing) ms else ms
+
+unfoldable pub error_json : ErrorBody → Data
+error_json e =
+    object (member (codes "message") (string e.message) (with_missing e.refusal e.missing (member (codes "refusal") (number (unsigned e.refusal)) no_members)))
 
 -- an OVN as it is shown to this client: that of its own reference alone
 abbrev pub ShowsOvn : List ℕ → List ℕ → Option (List ℕ) → Type 0
@@ -33,3 +42,15 @@ pub record IsReadable (client : List ℕ) (r : Reference) : Type 0 where
   pub end : is_instant r.end ≡ true
   pub base : IsBase r.base
   pub ticket : r.ticket < 2 ^ 128
+
+-- one who is to be told, as a reader can give it
+pub record IsReadableSubscriber (s : Subscriber) : Type 0 where
+  pub base : IsBase s.base
+  pub ticket : s.ticket < 2 ^ 128
+
+-- an error as a reader of this client's can give it
+pub record IsReadableError (client : List ℕ) (e : ErrorBody) : Type 0 where
+  pub refusal : e.refusal < 2 ^ 16
+  pub each : AllOf (IsReadable client) e.missing
+  pub few : length e.missing ≤ 4096
+  pub only : e.refusal ≢ 209 → e.missing ≡ []

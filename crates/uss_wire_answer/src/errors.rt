@@ -1,13 +1,20 @@
-ghost use Rattle.std.specs.Prelude.{◌≡◌, ◌^◌, IfOk};
+ghost use Rattle.std.specs.Prelude.{◌≡◌, ◌≢◌, ◌^◌, List, ℕ, [], IfOk, Ok};
+ghost use Rattle.std.specs.Str.{IsUtf8};
 ghost use Rattle.serde_json.specs.View.{view};
 ghost use Rattle.uss_wire_base.specs.Reading.{Gives, GivesBy, field, natural_below, text_at, message_of};
+ghost use Rattle.uss_wire_base.specs.Writing.{IsTextOf};
+ghost use Rattle.uss_wire_answer.specs.declared.errors.ErrorBody.{ErrorBody};
 ghost use Rattle.uss_wire_answer.specs.Answers as spec;
+ghost use Rattle.uss_wire_answer.specs.Writing.{error_json, IsReadableError};
 
-use serde_json::Value;
-use std::alloc::Global;
+use serde_json::{Value, json};
+use std::alloc::{AllocError, Global};
+use std::str;
 use uss_intent::{Name, References, Sequence};
-use uss_wire_base::{Member, WireRefusal, data, member_of, natural_16, object, text};
-use uss_wire_intent::references_of;
+use uss_wire_base::{
+    Member, WireRefusal, data, list, member_of, message, natural_16, object, text,
+};
+use uss_wire_intent::{ReferenceWriter, references_of};
 
 /// The body of an error.
 #[derive(Debug, Drop)]
@@ -81,3 +88,42 @@ pub fn read_error(alloc: Global, bytes: &[u8], client: &Name) -> Result<ErrorBod
     let value = data(alloc, bytes)?;
     error(alloc, client, Member::Whole, &value)
 }
+
+/// The text of an error.
+fn text_of(error: &ErrorBody) -> &str
+    requires { IsUtf8 error.now.message }
+    ensures { result.now ≡ error.now.message }
+{
+    match str::from_utf8(error.message.as_slice()) {
+        Ok(text) => text,
+        Err(_) => unreachable!(),
+    }
+}
+
+#[tactic(auto, unfolding(crate::specs::Writing::error_json))]
+fn error_value(alloc: Global, error: &ErrorBody) -> Result<Value, AllocError>
+    requires { IsUtf8 error.now.message }
+    ensures { IfOk result (λ v. view v ≡ error_json error.now) }
+{
+    let message = text_of(error);
+    if error.refusal == 209 {
+        let missing = list(alloc, &ReferenceWriter, error.missing.as_slice())?;
+        return json!(in alloc; {"message": message, "missing_operational_intents": missing, "refusal": error.refusal});
+    }
+    json!(in alloc; {"message": message, "refusal": error.refusal})
+}
+
+/// The bytes of the body of an error.
+pub fn write_error(alloc: Global, error: &ErrorBody) -> Result<Vec<u8>, AllocError>
+    requires text { IsUtf8 error.now.message }
+    requires missing { error.now.refusal ≢ 209 → error.now.missing ≡ [] }
+    ensures { IfOk result (λ b. IsTextOf (error_json error.now) b.items) }
+{
+    let value = error_value(alloc, error)?;
+    message(alloc, &value)
+}
+
+/// What is written of an error is read again as the same by the client that it was shown to. The function does nothing.
+pub fn errors_are_read_again()
+    ensures { (client : List ℕ) (e : ErrorBody) (b : List ℕ) → IsReadableError client e → IsTextOf (error_json e) b → message_of (spec.error_at client) b ≡ Ok e }
+{}

@@ -7,9 +7,10 @@ mod errors;
 mod writing;
 
 pub use changes::read_change_answer;
-pub use errors::{ErrorBody, read_error};
+pub use errors::{ErrorBody, errors_are_read_again, read_error, write_error};
 pub use writing::{
-    references_are_read_again, write_change_answer, write_get_answer, write_query_answer,
+    changes_are_read_again, references_are_read_again, write_change_answer, write_get_answer,
+    write_query_answer,
 };
 
 #[cfg(test)]

@@ -1,11 +1,14 @@
 ghost use Rattle.std.specs.Prelude.{◌≡◌, ◌≤◌, ℕ, List, length, Ok, IfOk};
 ghost use Rattle.serde_json.specs.View.{view};
+ghost use Rattle.uss_wire_base.specs.Reading.{message_of};
 ghost use Rattle.uss_wire_base.specs.Writing.{IsTextOf, AllOf, list_json};
 ghost use Rattle.uss_intent.specs.declared.records.Reference.{Reference};
+ghost use Rattle.uss_intent.specs.declared.records.Subscriber.{Subscriber};
 ghost use Rattle.uss_wire_base.specs.declared.refusal.Member.{Member};
 ghost use Rattle.uss_wire_intent.specs.References.{answered_reference_at, references_at};
 ghost use Rattle.uss_wire_intent.specs.Writing.{reference_json};
-ghost use Rattle.uss_wire_answer.specs.Writing.{IsReadable};
+ghost use Rattle.uss_wire_answer.specs.Answers.{change_answer_at};
+ghost use Rattle.uss_wire_answer.specs.Writing.{IsReadable, IsReadableSubscriber};
 ghost use Rattle.uss_wire_answer.specs.Writing as spec;
 
 use serde_json::{Value, json};
@@ -77,4 +80,10 @@ pub fn references_are_read_again()
     ensures one { (client : List ℕ) (place : Member) (r : Reference) → IsReadable client r → answered_reference_at client place (reference_json r) ≡ Ok r }
     ensures list { (client : List ℕ) (place : Member) (rs : List Reference) → AllOf (IsReadable client) rs → length rs ≤ 4096
         → references_at client place (list_json reference_json rs) ≡ Ok rs }
+{}
+
+/// What is written of a change is read again as the same by the client that it was shown to. The function does nothing.
+pub fn changes_are_read_again()
+    ensures { (client : List ℕ) (r : Reference) (ss : List Subscriber) (b : List ℕ) → IsReadable client r → AllOf IsReadableSubscriber ss → length ss ≤ 8192
+        → IsTextOf (spec.change_answer_json r ss) b → message_of (change_answer_at client) b ≡ Ok (r, ss) }
 {}

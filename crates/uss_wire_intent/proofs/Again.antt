@@ -3,10 +3,11 @@ use Rattle.std.proofs.Common.{◌≡◌, ◌^◌, ℕ, ◌+◌, ◌<◌, ◌≤�
 use Rattle.std.specs.Prelude.{codes, bytes_eq, nat_lt, Option}
 use Rattle.std.proofs.lemmas.Bool.{cond-true, cond-false}
 use Rattle.std.proofs.lemmas.Bool.Decides.{nat_tests}
-use Rattle.serde_json.specs.Data.{Data, string, number, unsigned, depth}
-use Rattle.serde_json.specs.Written.{has_float}
+use Rattle.serde_json.specs.Data.{Data, string, number, unsigned, depth, Members, members_depth}
+use Rattle.serde_json.specs.Written.{has_float, members_have_float}
 use Rattle.uss_intent.specs.declared.records.State.{State}
 use Rattle.uss_intent.specs.declared.records.State.TheVariants.{Accepted, Activated, Nonconforming, Contingent}
+use Rattle.uss_intent.specs.declared.records.Reference.{Reference}
 use Rattle.uss_intent.specs.declared.records.Ticket.{Ticket}
 use Rattle.uss_intent.specs.States.{state_text}
 use Rattle.uss_intent.specs.Texts.{is_name, is_base, is_ovn}
@@ -16,7 +17,7 @@ use Rattle.uss_wire_base.specs.declared.refusal.WireRefusal.TheVariants.{BadName
 use Rattle.uss_wire_base.specs.Reading.{some_or}
 use Rattle.uss_wire_volume.proofs.Again.{time_whole, time_shallow}
 use Rattle.uss_wire_intent.specs.Texts.{name_of, base_of, ovn_of, state_of, name_at, base_at, ovn_at, state_at, identifier_at}
-use Rattle.uss_wire_intent.specs.Writing.{identifier_json, ticket_json}
+use Rattle.uss_wire_intent.specs.Writing.{identifier_json, with_ovn, behind_ovn, reference_json, ticket_json}
 
 pub base_again : (m : Member) (base : List ℕ) → is_base base ≡ true → base_at m (string base) ≡ Ok base
 unfolding base_of
@@ -47,3 +48,19 @@ ticket_whole t = rw (time_whole t.area.end, time_whole t.area.start) refl
 pub ticket_shallow : (t : Ticket) → depth (ticket_json t) ≤ 2
 unfolding ticket_json
 ticket_shallow t = let a = time_shallow t.area.end in let b = time_shallow t.area.start in omega arith
+
+with_ovn_whole : (ovn : Option (List ℕ)) (ms : Members) → members_have_float ms ≡ false → members_have_float (with_ovn ovn ms) ≡ false
+with_ovn_whole None ms h = h
+with_ovn_whole (Some o) ms h = h
+
+with_ovn_shallow : (ovn : Option (List ℕ)) (ms : Members) (n : ℕ) → members_depth ms ≤ n → members_depth (with_ovn ovn ms) ≤ n
+with_ovn_shallow None ms n h = h
+with_ovn_shallow (Some o) ms n h = omega arith
+
+pub reference_whole : (r : Reference) → has_float (reference_json r) ≡ false
+unfolding reference_json
+reference_whole r = with_ovn_whole r.ovn (behind_ovn r) (rw (time_whole r.end, time_whole r.start) refl)
+
+pub reference_shallow : (r : Reference) → depth (reference_json r) ≤ 2
+unfolding reference_json
+reference_shallow r = let a = time_shallow r.end in let b = time_shallow r.start in let c = with_ovn_shallow r.ovn (behind_ovn r) 1 (omega arith) in omega arith

@@ -1,4 +1,4 @@
-use Rattle.std.proofs.Common.{◌≡◌, List, ◌++◌, ap, ◌∙◌, sym}
+use Rattle.std.proofs.Common.{List, ◌++◌, ap, ◌∙◌, sym}
 use Rattle.uss_intent.specs.declared.records.Subscriber.{Subscriber}
 use Rattle.uss_wire_answer.proofs.Flat.{flatten_more}
 use Rattle.uss_wire_answer.proofs.changes.flattened.Goals as goal

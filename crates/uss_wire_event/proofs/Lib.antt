@@ -1,0 +1,5 @@
+pub mod Shown
+pub mod Timed
+pub mod Plain
+pub mod Reread
+pub mod PlainOutcomes

@@ -1,0 +1,4 @@
+pub mod Intents
+pub mod Asks
+pub mod Writing
+pub mod Outcomes
