@@ -1,6 +1,5 @@
 -- The answer of reading a response, with the refusals of messages.
-use Rattle.std.proofs.Common.{◌≡◌, ℕ, List, [], ◌++◌, Option, Some, Ok, Err}
-use Rattle.std.specs.Prelude.{Result}
+use Rattle.std.proofs.Common.{ℕ, List, ◌++◌, Option, Ok, Err}
 use Rattle.uss_link.specs.Talks.{Talk}
 use Rattle.uss_http_base.specs.declared.refusal.ReadRefusal.{ReadRefusal}
 use Rattle.uss_http_base.specs.declared.refusal.ReadRefusal.TheVariants as read

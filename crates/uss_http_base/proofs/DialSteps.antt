@@ -1,9 +1,9 @@
 -- A dial as a stream.
-use Rattle.std.proofs.Common.{◌≡◌, ℕ, ◌<◌, Bool, true, false, List, [], ◌∷◌, ◌++◌, length, take, Option, Some, None, Ok, Err, append-nil, refl, sym, ap, ◌∙◌, subst, arith, append_assoc}
+use Rattle.std.proofs.Common.{◌≡◌, ℕ, ◌<◌, Bool, true, false, List, [], ◌∷◌, ◌++◌, length, take, Option, Some, None, Ok, refl, sym, ap, ◌∙◌, subst, arith, append_assoc}
 use Rattle.std.specs.Prelude.{◌==◌, ◌&&◌, ◌||◌, nat_lt, IsTrue}
 use Rattle.std.proofs.lemmas.Bool.Decides.{nat_tests}
 use Rattle.uss_link.specs.Talks.{Talk, with_received, Receives}
-use Rattle.uss_http_base.specs.Dials.{heard, is_over, Heard, HeardFrom, IsOver}
+use Rattle.uss_http_base.specs.Dials.{heard, is_over, HeardFrom, IsOver}
 
 -- the last of the streams, behind the earlier ones
 heard_last : (bytes : List ℕ) (is_end : Bool) (earlier : List Talk) (last : Talk) → heard bytes is_end (earlier ++ last ∷ []) ≡ earlier ++ with_received bytes is_end last ∷ []

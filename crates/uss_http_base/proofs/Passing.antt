@@ -1,7 +1,7 @@
 -- How the bytes of a stream go on from one call to the next.
 use Rattle.std.proofs.Common.{◌≡◌, ℕ, ◌+◌, ◌-◌, ◌<◌, ◌≤◌, ◌++◌, List, [], ◌∷◌, length, take, drop, refl, sym, ◌∙◌, ap, subst, arith, append_assoc, length-append, length-take, append-nil}
 use Rattle.std.proofs.lemmas.List.{take-append-drop}
-use Rattle.uss_http_base.specs.Streams.{come, Hears, Passes, Adds, Moves, Lacks}
+use Rattle.uss_http_base.specs.Streams.{Hears, Passes, Adds, Moves, Lacks}
 
 pub passes_same : {S : Type 0} (gave : S → S → List ℕ → Type 0) (s : S) (bytes : List ℕ) → Passes gave s bytes s bytes
 passes_same gave s bytes = record { told = λ origin past had. had }

@@ -1,5 +1,5 @@
 -- What was received over the stream that was opened last over a dial. This project's own.
-use Rattle.std.specs.Prelude.{◌≡◌, ℕ, Bool, true, false, List, [], ◌∷◌, ◌++◌, Option, Some, IsTrue}
+use Rattle.std.specs.Prelude.{◌≡◌, ℕ, Bool, false, List, [], ◌∷◌, Option, Some, IsTrue}
 use Rattle.uss_link.specs.Talks.{Talk, with_received}
 
 -- the streams, with these bytes received over the last of them, and its end where it was given

@@ -1,5 +1,5 @@
 -- A dial of which nothing is received. This project's own.
-use Rattle.std.specs.Prelude.{◌≡◌, ℕ, Bool, true, false, ◌||◌, List, [], ◌∷◌, ◌++◌, Option, Some}
+use Rattle.std.specs.Prelude.{◌≡◌, Bool, true, false, ◌||◌, List, [], ◌∷◌, Option, Some}
 use Rattle.std.proofs.Common.{refl, sym, ap, ◌∙◌, append-nil}
 use Rattle.uss_link.specs.Talks.{Talk, with_received}
 use Rattle.uss_http_base.specs.Dials.{heard, HeardFrom}

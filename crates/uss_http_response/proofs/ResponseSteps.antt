@@ -1,5 +1,5 @@
 -- From a head and a body to a response.
-use Rattle.std.proofs.Common.{◌≡◌, ℕ, ◌<◌, ◌≤◌, List, [], ◌∷◌, ◌++◌, length, take, refl, sym, ap, ◌∙◌, subst, arith, Option, Some, Ok, Err, inl, inr, append_assoc, append-nil, length-append}
+use Rattle.std.proofs.Common.{◌≡◌, ℕ, List, [], ◌++◌, take, refl, sym, ap, ◌∙◌, subst, arith, Option, Some, Ok, Err, inl, inr, append_assoc, append-nil, length-append}
 use Rattle.std.specs.Prelude.{Result}
 use Rattle.std.proofs.lemmas.List.{take-append-le}
 use Rattle.httparse.specs.Grammar.{ResponseHead, print_response, NeverHasResponse}
@@ -8,9 +8,8 @@ use Rattle.uss_http_base.specs.declared.fields.Framing.TheVariants.{Nothing, Len
 use Rattle.uss_http_base.specs.declared.refusal.ReadRefusal.{ReadRefusal}
 use Rattle.uss_http_base.specs.declared.refusal.ReadRefusal.TheVariants as refusal
 use Rattle.uss_http_base.specs.Pieces.{piece_limit}
-use Rattle.uss_http_base.specs.Fields.{body_limit}
 use Rattle.uss_http_base.specs.Streams.{Hears, Passes}
-use Rattle.uss_http_base.specs.Bodies.{IsBody, IsRefusedBody, TakesBody, ShowsNoBody, MissesBody}
+use Rattle.uss_http_base.specs.Bodies.{IsRefusedBody, ShowsNoBody}
 use Rattle.uss_http_base.proofs.Passing.{passes_then, passes_behind}
 use Rattle.uss_http_base.proofs.Lifting.{front_more, body_more, body_refusal_more}
 use Rattle.uss_link.specs.Talks.{Talk}
@@ -20,9 +19,9 @@ use Rattle.uss_http_response.specs.declared.heads.BodyEnd.{BodyEnd}
 use Rattle.uss_http_response.specs.declared.heads.BodyEnd.TheVariants.{Framed, AtTheEnd}
 use Rattle.uss_http_response.specs.declared.heads.StatusHead.{StatusHead}
 use Rattle.uss_http_response.specs.declared.response.Response.{Response}
-use Rattle.uss_http_response.specs.Heads.{BeginsWith, IsOpenHead, HasHead, HasRefusedHead, IsRefusedHead}
+use Rattle.uss_http_response.specs.Heads.{BeginsWith, IsOpenHead, HasHead, IsRefusedHead}
 use Rattle.uss_http_response.specs.Responses.{IsBodyAt, IsRefusedBodyAt, IsRefused, IsAnswerOf}
-use Rattle.uss_http_response.specs.Answers.{TakesHead, ShowsNoHead, MissesHead, TakesRest, MissesRest, TakesBodyAt, MissesBodyAt, ShowsAnswer}
+use Rattle.uss_http_response.specs.Answers.{TakesHead, ShowsNoHead, MissesHead, MissesRest, TakesBodyAt, MissesBodyAt, ShowsAnswer}
 
 -- nothing more comes
 abbrev NothingMore : {S : Type 0} (ended : S → Type 0) (now : S) (more : List ℕ) → Type 0

@@ -1,5 +1,5 @@
 -- Heads of responses: RFC 9112, sections 2 to 6, as the grammar of the crate `httparse` has it, and within 16 KiB.
-use Rattle.std.specs.Prelude.{◌≡◌, ℕ, ◌≤◌, ◌<◌, ◌==◌, ◌⊎◌, List, ◌++◌, length, take, map, Option, Some, None, option_map, if◌then◌else◌}
+use Rattle.std.specs.Prelude.{◌≡◌, ℕ, ◌≤◌, ◌<◌, ◌==◌, ◌⊎◌, List, ◌++◌, length, take, map, Some, None, option_map, if◌then◌else◌}
 use Rattle.httparse.specs.Grammar.{ResponseHead, IsResponseHead, print_response, status_code, HasNoResponse, NeverHasResponse, MayBecomeResponse}
 use Rattle.httparse.specs.Spans.{name_and_value}
 use Rattle.uss_http_base.specs.declared.fields.Framing.{Framing}

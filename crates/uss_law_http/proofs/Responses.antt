@@ -1,16 +1,14 @@
 -- The same bytes up to the end of a stream have one answer as a response.
 use Rattle.std.proofs.Math.Seq.{take-append-add}
-use Rattle.std.proofs.Common.{◌≡◌, ℕ, ◌+◌, ◌-◌, ◌<◌, ◌≤◌, List, [], ◌++◌, length, take, Some, None, refl, sym, ap, ◌∙◌, subst, arith, Ok, Err, inl, inr, append_assoc, append-nil, take_all}
+use Rattle.std.proofs.Common.{◌≡◌, ℕ, ◌+◌, ◌-◌, ◌<◌, List, [], ◌++◌, length, take, Some, None, refl, sym, ap, ◌∙◌, subst, arith, Ok, Err, inl, inr, append-nil, take_all}
 use Rattle.std.specs.Prelude.{map, option_map, Option, Result}
 use Rattle.httparse.specs.Grammar.{ResponseHead, print_response, status_code, ReadsResponse, NeverHasResponse}
 use Rattle.httparse.specs.Spans.{name_and_value}
 use Rattle.httparse.proofs.GrammarLemmas.{response_unique}
-use Rattle.uss_http_base.specs.declared.fields.Framing.{Framing}
 use Rattle.uss_http_base.specs.declared.refusal.ReadRefusal.{ReadRefusal}
 use Rattle.uss_http_base.specs.declared.refusal.ReadRefusal.TheVariants as refusal
 use Rattle.uss_http_base.specs.Pieces.{piece_limit}
-use Rattle.uss_http_base.specs.Fields.{body_limit, framing_of}
-use Rattle.uss_http_base.specs.Bodies.{IsBody, IsRefusedBody}
+use Rattle.uss_http_base.specs.Fields.{framing_of}
 use Rattle.uss_http_response.specs.declared.heads.BodyEnd.{BodyEnd}
 use Rattle.uss_http_response.specs.declared.heads.BodyEnd.TheVariants.{Framed, AtTheEnd}
 use Rattle.uss_http_response.specs.declared.heads.StatusHead.{StatusHead}

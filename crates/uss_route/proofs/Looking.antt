@@ -1,5 +1,5 @@
 -- How the rows of a path and the row of a method are found.
-use Rattle.std.proofs.Common.{◌≡◌, ℕ, zero, suc, ◌+◌, ◌<◌, ◌≤◌, Bool, true, false, List, [], ◌∷◌, ◌++◌, length, get_or, take, drop, Option, Some, None, Ok, Err, refl, sym, ap, ◌∙◌, arith, cond, add-one, inl, inr, append_assoc, append-nil}
+use Rattle.std.proofs.Common.{◌≡◌, ℕ, suc, ◌+◌, ◌<◌, Bool, true, false, List, [], ◌∷◌, ◌++◌, length, get_or, take, drop, Some, None, Ok, Err, refl, sym, ap, ◌∙◌, arith, cond, add-one, inl, inr, append_assoc, append-nil}
 use Rattle.std.specs.Prelude.{◌⊎◌, ◌&&◌, ◌||◌, ◌==◌, not, codes, bytes_eq, Result, if◌then◌else◌}
 use Rattle.std.specs.List.{filter, flat_map, list_any}
 use Rattle.std.proofs.Math.Seq.{drop-cons, take-suc}
@@ -11,7 +11,7 @@ use Rattle.std.specs.Str.{is_utf8}
 use Rattle.uss_http.specs.declared.refusal.HttpRefusal.{HttpRefusal}
 use Rattle.uss_http.specs.declared.refusal.HttpRefusal.TheVariants as refusal
 use Rattle.uss_route.specs.declared.found.Route.{Route}
-use Rattle.uss_route.specs.Routes.{fits, is_served, is_written_out, rows_at, with_method, joined, is_tagged, untagged, without_query, refused, route_at, route_by, route_on, route_of}
+use Rattle.uss_route.specs.Routes.{fits, is_served, is_written_out, rows_at, with_method, is_tagged, untagged, without_query, refused, route_at, route_by, route_on, route_of}
 
 pub both_left : (a b : Bool) → (a && b) ≡ true → a ≡ true
 both_left true b e = refl

@@ -1,7 +1,6 @@
 -- A row's paths are its text and its parameters.
-use Rattle.std.proofs.Common.{◌≡◌, ℕ, zero, suc, ◌+◌, ◌<◌, ◌≤◌, Bool, true, false, List, [], ◌∷◌, ◌++◌, length, get_or, take, drop, refl, sym, ap, ◌∙◌, subst, arith, cond, All, append-nil, length-append, take_all, one-add}
+use Rattle.std.proofs.Common.{◌≡◌, ℕ, zero, suc, ◌+◌, ◌<◌, Bool, true, false, List, [], ◌∷◌, ◌++◌, length, get_or, take, drop, refl, sym, ap, ◌∙◌, arith, cond, All, one-add}
 use Rattle.std.specs.Prelude.{◌&&◌, ◌==◌, not, nat_lt, bytes_eq, codes, if◌then◌else◌}
-use Rattle.std.specs.List.{take_while, flat_map}
 use Rattle.std.proofs.lemmas.List.{take-append-drop}
 use Rattle.std.proofs.lemmas.List.Sums.{take_while-cons}
 use Rattle.std.proofs.lemmas.List.Elements.{All-nil, All-cons, All-head, All-tail}
@@ -9,7 +8,7 @@ use Rattle.std.proofs.lemmas.Bool.Decides.{nat_tests}
 use Rattle.std.proofs.lemmas.Slice.Eq.{bytes_eq-Decides}
 use Rattle.uss_route.specs.declared.rows.RouteRow.{RouteRow}
 use Rattle.uss_route.specs.Rows.{text_of, count_of}
-use Rattle.uss_route.specs.Routes.{before, segment, first_segment, behind_segment, are_parameters, behind_text, fits, first_of, second_of}
+use Rattle.uss_route.specs.Routes.{segment, first_segment, behind_segment, are_parameters, behind_text, fits, first_of, second_of}
 use Rattle.uss_route.specs.Spelling.{IsParameter, parameters_text, IsPathOf}
 use Rattle.uss_route.proofs.Looking.{both_left, both_right}
 

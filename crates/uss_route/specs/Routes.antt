@@ -1,6 +1,6 @@
 -- How a path is looked up in the table. This project's own.
-use Rattle.std.specs.Prelude.{ℕ, zero, suc, ◌+◌, ◌==◌, nat_lt, Bool, true, false, not, ◌&&◌, ◌||◌, List, [], ◌∷◌, ◌++◌, length, take, drop, filter, map, get_or, codes, bytes_eq, Option, Some, None, Result, Ok, Err, if◌then◌else◌}
-use Rattle.std.specs.List.{take_while, list_any, list_all, flat_map}
+use Rattle.std.specs.Prelude.{ℕ, zero, suc, ◌+◌, ◌==◌, nat_lt, Bool, not, ◌&&◌, ◌||◌, List, [], ◌∷◌, ◌++◌, length, take, drop, filter, codes, bytes_eq, Option, Some, None, Result, Ok, Err, if◌then◌else◌}
+use Rattle.std.specs.List.{take_while, list_any, flat_map}
 use Rattle.std.specs.Str.{is_utf8}
 use Rattle.uss_http.specs.declared.refusal.HttpRefusal.{HttpRefusal}
 use Rattle.uss_http.specs.declared.refusal.HttpRefusal.TheVariants as refusal

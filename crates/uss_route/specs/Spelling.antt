@@ -1,5 +1,5 @@
 -- A path as a text and parameters. This project's own.
-use Rattle.std.specs.Prelude.{◌≡◌, ℕ, ◌<◌, ◌==◌, false, List, [], ◌∷◌, ◌++◌, length, map, get_or, All}
+use Rattle.std.specs.Prelude.{◌≡◌, ℕ, ◌<◌, ◌==◌, false, List, ◌∷◌, ◌++◌, length, All}
 use Rattle.std.specs.List.{flat_map}
 use Rattle.uss_route.specs.declared.rows.RouteRow.{RouteRow}
 use Rattle.uss_route.specs.Rows.{text_of, count_of}

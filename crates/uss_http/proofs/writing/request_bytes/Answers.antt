@@ -1,4 +1,3 @@
-use Rattle.std.proofs.Common.{◌≡◌}
 use Rattle.uss_http.proofs.writing.request_bytes.Goals as goal
 
 pub returns : goal.returns

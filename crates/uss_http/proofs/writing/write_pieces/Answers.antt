@@ -1,4 +1,3 @@
-use Rattle.std.proofs.Common.{◌≡◌}
 use Rattle.uss_http.proofs.PieceSteps.{front_of_pieces}
 use Rattle.uss_http.proofs.writing.write_pieces.Goals as goal
 

@@ -1,5 +1,4 @@
 use Rattle.std.proofs.Common.{◌≤◌, ◌-◌, length}
-use Rattle.uss_http_base.specs.Fields.{body_limit}
 use Rattle.uss_http_base.specs.Streams.{Hears, Passes}
 use Rattle.uss_http_response.proofs.rest.take_rest.Given as goal
 

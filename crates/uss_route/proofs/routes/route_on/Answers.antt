@@ -1,6 +1,4 @@
-use Rattle.std.proofs.Common.{sym, ◌∙◌, ap, List}
-use Rattle.std.specs.Prelude.{Option}
-use Rattle.uss_http.specs.declared.refusal.HttpRefusal.{HttpRefusal}
+use Rattle.std.proofs.Common.{sym, ◌∙◌, ap}
 use Rattle.uss_route.specs.Routes.{with_method}
 use Rattle.uss_route.proofs.Looking.{no_row, this_row, found_fits}
 use Rattle.uss_route.proofs.routes.route_on.Goals as goal
