@@ -1,3 +1,4 @@
-pub mod Judge
 pub mod Book
+pub mod Judge
 pub mod Refusal
+pub mod Whole

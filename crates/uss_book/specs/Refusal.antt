@@ -4,10 +4,13 @@ use Rattle.uss_cause.specs.Cause.{Rose}
 use Rattle.uss_event.specs.declared.entries.Owner.{Owner}
 use Rattle.uss_event.specs.declared.entries.Entry.{Entry}
 use Rattle.uss_journal.specs.Format.{stands_for}
-use Rattle.uss_law_book.specs.Legal.{IsLegal}
+use Rattle.uss_journal.specs.Journal.{JournalView}
+use Rattle.uss_journal.specs.declared.refusal.JournalRefusal.{JournalRefusal}
+use Rattle.uss_journal.specs.declared.refusal.JournalRefusal.TheVariants as Journals
 use Rattle.uss_book.specs.declared.refusal.BookFault.{BookFault}
 use Rattle.uss_book.specs.declared.refusal.BookFault.TheVariants.{DiskFault, NotAJournal, Spent, BadEntry, OtherOwner, Changed, Memory}
 use Rattle.uss_book.specs.declared.refusal.BookRefusal.{BookRefusal}
+use Rattle.uss_book.specs.declared.kept.Kept.{Kept}
 use Rattle.uss_book.specs.Book.{BookView, records_of, IsBadEntry, IsOtherOwner, IsChanged}
 
 -- an entry that was entered: it is the last
@@ -75,3 +78,35 @@ RefusedBy owner file Memory = Unit {0}
 abbrev pub disk_after : {D : Type 0} → Result (BookView D) (BookRefusal D) → D
 disk_after (Ok book) = book.disk
 disk_after (Err refused) = refused.back
+
+-- ---- what the journal answers, as the book's answer
+
+-- a refusal of the journal that the book answers too: a journal that is full or spent is none of them
+abbrev pub IsPassedOn : JournalRefusal → Type 0
+IsPassedOn Journals.DiskFault = Unit {0}
+IsPassedOn (Journals.NotAJournal place) = Unit {0}
+IsPassedOn Journals.Memory = Unit {0}
+IsPassedOn Journals.JournalFull = ⊥
+IsPassedOn (Journals.Spent count) = ⊥
+
+abbrev pub passed_on : JournalRefusal → BookFault
+passed_on Journals.DiskFault = DiskFault
+passed_on (Journals.NotAJournal place) = NotAJournal place
+passed_on Journals.Memory = Memory
+passed_on Journals.JournalFull = Memory
+passed_on (Journals.Spent count) = Memory
+
+-- why the entries of a file couldn't be read, by its bytes
+abbrev pub ReadBy : (file : List ℕ) (fault : BookFault) → Type 0
+ReadBy file (NotAJournal place) = stands_for file ≡ Err place
+ReadBy file (BadEntry n) = StandsForSome file (λ records. IsBadEntry records n)
+ReadBy file (OtherOwner kept) = ⊥
+ReadBy file DiskFault = Unit {0}
+ReadBy file (Spent count) = Unit {0}
+ReadBy file (Changed n) = Unit {0}
+ReadBy file Memory = Unit {0}
+
+-- the disk after the entries of a file were read
+abbrev pub disk_read : {D : Type 0} → Result (JournalView D × Kept) (BookRefusal D) → D
+disk_read (Ok found) = found.0.disk
+disk_read (Err refused) = refused.back

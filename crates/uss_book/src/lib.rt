@@ -3,6 +3,7 @@
 
 mod judge;
 mod kept;
+mod load;
 mod refusal;
 mod reserve;
 
