@@ -1,2 +1,4 @@
-pub mod Room
+pub mod Lengths
 pub mod Records
+pub mod Room
+pub mod FirstEntry

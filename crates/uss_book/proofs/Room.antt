@@ -189,7 +189,7 @@ idle t t' n n' d d' = omega (arith, flag_either t t', flag_either d d')
 short_ovn : (t : List ℕ) → IsOvn t → length t ≤ 128
 short_ovn t h = let a = and_parts _ _ h in let b = and_parts _ _ a.0 in leb-true (length t) 128 b.1
 
-short_name : (t : List ℕ) → IsName t → length t ≤ 64
+pub short_name : (t : List ℕ) → IsName t → length t ≤ 64
 short_name t h = let a = and_parts _ _ h in let b = and_parts _ _ a.0 in leb-true (length t) 64 b.1
 
 short_option : (o : Option (List ℕ)) → IfSome o IsOvn → option_length o ≤ 133

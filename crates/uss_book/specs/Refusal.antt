@@ -4,6 +4,7 @@ use Rattle.uss_cause.specs.Cause.{Rose}
 use Rattle.uss_event.specs.declared.entries.Owner.{Owner}
 use Rattle.uss_event.specs.declared.entries.Entry.{Entry}
 use Rattle.uss_journal.specs.Format.{stands_for}
+use Rattle.uss_law_book.specs.Lists.{owner_of}
 use Rattle.uss_journal.specs.Journal.{JournalView}
 use Rattle.uss_journal.specs.declared.refusal.JournalRefusal.{JournalRefusal}
 use Rattle.uss_journal.specs.declared.refusal.JournalRefusal.TheVariants as Journals
@@ -110,3 +111,23 @@ ReadBy file Memory = Unit {0}
 abbrev pub disk_read : {D : Type 0} → Result (JournalView D × Kept) (BookRefusal D) → D
 disk_read (Ok found) = found.0.disk
 disk_read (Err refused) = refused.back
+
+-- the refusal says nothing of the bytes: a fault of the disk, or want of memory
+abbrev pub SaysNothing : BookFault → Type 0
+SaysNothing DiskFault = Unit {0}
+SaysNothing Memory = Unit {0}
+SaysNothing (NotAJournal place) = ⊥
+SaysNothing (Spent count) = ⊥
+SaysNothing (BadEntry n) = ⊥
+SaysNothing (OtherOwner kept) = ⊥
+SaysNothing (Changed n) = ⊥
+
+-- the book is another owner's
+abbrev pub IsAnothers : (entries : List Entry) (owner : Owner) (fault : BookFault) → Type 0
+IsAnothers entries owner (OtherOwner kept) = (owner_of entries ≡ Some kept) × (kept ≡ owner → ⊥)
+IsAnothers entries owner DiskFault = ⊥
+IsAnothers entries owner Memory = ⊥
+IsAnothers entries owner (NotAJournal place) = ⊥
+IsAnothers entries owner (Spent count) = ⊥
+IsAnothers entries owner (BadEntry n) = ⊥
+IsAnothers entries owner (Changed n) = ⊥

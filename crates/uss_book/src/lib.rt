@@ -1,10 +1,14 @@
 //! A supplier's book: typed entries over a journal, legal at every moment.
 #![tactic(auto)]
 
+mod book;
 mod judge;
 mod kept;
 mod load;
+mod owner;
 mod refusal;
 mod reserve;
+mod start;
 
+pub use book::Book;
 pub use refusal::{BookFault, BookRefusal};

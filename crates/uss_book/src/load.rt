@@ -15,7 +15,7 @@ use uss_disk::Disk;
 use uss_journal::{Journal, JournalRefusal};
 
 /// What a book answers where its journal answers this.
-fn passed_on(refusal: JournalRefusal) -> BookFault
+pub(crate) fn passed_on(refusal: JournalRefusal) -> BookFault
     requires { IsPassedOn refusal }
     ensures { result ≡ passed_on refusal }
 {

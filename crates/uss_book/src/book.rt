@@ -1,0 +1,163 @@
+ghost use Rattle.std.specs.Prelude.{◌≡◌, ◌↔◌, ◌≢◌, ◌≤◌, ◌⊎◌, ◌∷◌, ◌++◌, [], List, ℕ, length, Some, None, IfOk, IfErr, OnOk, MatchResult, slice_get};
+ghost use Rattle.std.specs.Option.{option_copied};
+ghost use Rattle.uss_event.specs.declared.entries.Entry.{Entry};
+ghost use Rattle.uss_disk.specs.Disk.{bytes_of, CrashLeaves};
+ghost use Rattle.uss_journal.specs.Format.{stands_for};
+ghost use Rattle.uss_law_book.specs.Lists.{owner_of};
+ghost use Rattle.uss_law_book.specs.Coding.{journal_length};
+ghost use Rattle.uss_law_book.specs.Legal.{MayFollow, IsLegal};
+ghost use Rattle.uss_book.specs.Book.{StandsForBook, IsFound, new_book, records_of};
+ghost use Rattle.uss_book.specs.Refusal.{MountRefused, RefusedBy, SaysNothing, IsAnothers, disk_after};
+
+use crate::kept::Kept;
+use crate::load::load;
+use crate::owner::{into_owner, is_of};
+use crate::start::start;
+use crate::{BookFault, BookRefusal};
+use std::alloc::Global;
+use std::marker::Model;
+use uss_disk::Disk;
+use uss_event::{Entry, Owner};
+use uss_journal::Journal;
+
+/// A supplier's book on a disk: a list of entries, legal at every moment, each durable once it was entered. It owns its disk.
+#[derive(Drop)]
+pub struct Book<D: Disk> {
+    alloc: Global,
+    journal: Journal<D>,
+    kept: Kept,
+    // Where the book is spent: by which count of faults. Its journal may then be spent too, or have other records than the book.
+    spent: Option<u64>,
+    // The entry that was tried when the book was spent, if one was.
+    tried: Option<Entry>,
+    // The bytes of a journal of the entries.
+    used: u64,
+}
+
+impl<D: Disk> Model for Book<D> {
+    ghost use Rattle.uss_book.specs.Book.{BookView};
+    ghost use Rattle.uss_book.specs.Whole.{IsWhole};
+
+    ghost Value = { BookView D };
+
+    ghost view = { λ b. record { disk = b.journal.disk; entries = b.kept.entries.items; spent = b.spent; tried = b.tried } };
+
+    ghost invariant = { λ b. IsWhole D.may_leave D.is_honest b.journal b.kept.entries.items b.spent b.tried b.used };
+}
+
+/// The book of entries that were read.
+fn made<D: Disk>(alloc: Global, journal: Journal<D>, kept: Kept) -> Book<D>
+    requires legal { IsLegal kept.entries.items }
+    requires unspent { journal.spent ≡ None }
+    requires records { records_of kept.entries.items ≡ journal.records }
+    requires left { D.is_honest journal.disk → (image : List ℕ) → D.may_leave journal.disk image → StandsForBook kept.entries.items image }
+    ensures disk { result.disk ≡ journal.disk }
+    ensures entries { result.entries ≡ kept.entries.items }
+    ensures spent { result.spent ≡ None }
+    ensures tried { result.tried ≡ None }
+{
+    let used = journal.used();
+    Book {
+        alloc,
+        journal,
+        kept,
+        spent: None,
+        tried: None,
+        used,
+    }
+}
+
+/// The book of entries that were read, where it is the owner's.
+fn owned<D: Disk>(
+    alloc: Global,
+    journal: Journal<D>,
+    kept: Kept,
+    owner: &Owner,
+) -> Result<Book<D>, BookRefusal<D>>
+    requires legal { IsLegal kept.entries.items }
+    requires some { kept.entries.items ≢ [] }
+    requires unspent { journal.spent ≡ None }
+    requires records { records_of kept.entries.items ≡ journal.records }
+    requires left { D.is_honest journal.disk → (image : List ℕ) → D.may_leave journal.disk image → StandsForBook kept.entries.items image }
+    ensures entries { IfOk result (λ b. b.entries ≡ kept.entries.items) }
+    ensures owner { IfOk result (λ b. owner_of b.entries ≡ Some owner.now) }
+    ensures unspent { IfOk result (λ b. (b.spent ≡ None) × (b.tried ≡ None)) }
+    ensures another { IfErr result (λ r. IsAnothers kept.entries.items owner.now r.refusal) }
+    ensures disk { disk_after result ≡ journal.disk }
+{
+    if is_of(kept.as_slice(), owner) {
+        Ok(made(alloc, journal, kept))
+    } else {
+        Err(BookRefusal {
+            refusal: BookFault::OtherOwner(into_owner(kept)),
+            back: journal.release(),
+        })
+    }
+}
+
+/// A new book in an empty journal. The owner's base URL has at most 256 bytes.
+fn begun<D: Disk>(
+    alloc: Global,
+    journal: Journal<D>,
+    kept: Kept,
+    owner: Owner,
+) -> Result<Book<D>, BookRefusal<D>>
+    requires short { length owner.base ≤ 256 }
+    requires empty { kept.entries.items ≡ [] }
+    requires unwritten { journal.records ≡ [] }
+    requires unspent { journal.spent ≡ None }
+    ensures refused { IfErr result (λ r. MountRefused (D.fault_count journal.disk) (D.fault_count r.back) r.refusal) }
+    ensures free { IfErr result (λ r. SaysNothing r.refusal) }
+    ensures entries { IfOk result (λ b. b.entries ≡ new_book owner) }
+    ensures legal { IfOk result (λ b. IsLegal b.entries) }
+    ensures unspent { IfOk result (λ b. (b.spent ≡ None) × (b.tried ≡ None)) }
+    ensures count { D.fault_count journal.disk ≤ D.fault_count (disk_after result) }
+    ensures honest { D.is_honest (disk_after result) ↔ D.is_honest journal.disk }
+    ensures durable { D.is_honest journal.disk → IfOk result (λ b. (image : List ℕ) → D.may_leave b.disk image → StandsForBook b.entries image) }
+    ensures crash { D.is_honest journal.disk → CrashLeaves D.moment D.left_since
+        (λ image. D.may_leave journal.disk image ⊎ (stands_for image ≡ Ok []) ⊎ StandsForBook (new_book owner) image) journal.disk (disk_after result) }
+{
+    let mut journal = journal;
+    let mut kept = kept;
+    match start(alloc, &mut journal, &mut kept, owner) {
+        Ok(()) => Ok(made(alloc, journal, kept)),
+        Err(refusal) => Err(BookRefusal {
+            refusal,
+            back: journal.release(),
+        }),
+    }
+}
+
+impl<D: Disk> Book<D> {
+    /// Mounts the book that the disk's file holds, and makes a new one of an empty journal. The owner's base URL has at most 256
+    /// bytes. A refusal hands the disk back.
+    pub fn mount(alloc: Global, disk: D, owner: Owner) -> Result<Book<D>, BookRefusal<D>>
+        requires { length owner.base ≤ 256 }
+        ensures refused { IfErr result (λ r. MountRefused (D.fault_count disk) (D.fault_count r.back) r.refusal) }
+        ensures unspent { IfOk result (λ b. (b.spent ≡ None) × (b.tried ≡ None)) }
+        ensures legal { IfOk result (λ b. IsLegal b.entries) }
+        ensures owner { IfOk result (λ b. owner_of b.entries ≡ Some owner) }
+        ensures count { D.fault_count disk ≤ D.fault_count (disk_after result) }
+        ensures honest { D.is_honest (disk_after result) ↔ D.is_honest disk }
+
+        // On an honest disk, by the bytes.
+        ensures found { D.is_honest disk → MatchResult result
+            (λ b. IsFound owner (bytes_of (D.reads disk)) b.entries)
+            (λ r. RefusedBy owner (bytes_of (D.reads disk)) r.refusal) }
+        ensures durable { D.is_honest disk → IfOk result (λ b. (image : List ℕ) → D.may_leave b.disk image → StandsForBook b.entries image) }
+
+        // A crash at any moment of it leaves what it could have left before, or what stands for the same, or for the new book.
+        ensures crash { D.is_honest disk → CrashLeaves D.moment D.left_since
+            (λ image. D.may_leave disk image ⊎ (stands_for image ≡ stands_for (bytes_of (D.reads disk))) ⊎ StandsForBook (new_book owner) image) disk (disk_after result) }
+    {
+        let (journal, kept) = match load(alloc, disk) {
+            Ok(found) => found,
+            Err(refused) => return Err(refused),
+        };
+        if kept.as_slice().is_empty() {
+            begun(alloc, journal, kept, owner)
+        } else {
+            owned(alloc, journal, kept, &owner)
+        }
+    }
+}
