@@ -1,4 +1,5 @@
 pub mod Lengths
+pub mod Mount
 pub mod Records
 pub mod Room
 pub mod FirstEntry
