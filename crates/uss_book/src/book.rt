@@ -6,8 +6,8 @@ ghost use Rattle.uss_journal.specs.Format.{stands_for};
 ghost use Rattle.uss_law_book.specs.Lists.{owner_of};
 ghost use Rattle.uss_law_book.specs.Coding.{journal_length};
 ghost use Rattle.uss_law_book.specs.Legal.{MayFollow, IsLegal};
-ghost use Rattle.uss_book.specs.Book.{StandsForBook, IsFound, new_book, records_of};
-ghost use Rattle.uss_book.specs.Refusal.{MountRefused, RefusedBy, SaysNothing, IsAnothers, disk_after};
+ghost use Rattle.uss_book.specs.Book.{StandsForBook, BookWithOrWithout, IsFound, new_book, records_of};
+ghost use Rattle.uss_book.specs.Refusal.{Entered, EnterRefused, MountRefused, RefusedBy, SaysNothing, IsAnothers, disk_after};
 
 use crate::kept::Kept;
 use crate::load::load;
@@ -16,9 +16,10 @@ use crate::start::start;
 use crate::{BookFault, BookRefusal};
 use std::alloc::Global;
 use std::marker::Model;
+use uss_coding::write;
 use uss_disk::Disk;
 use uss_event::{Entry, Owner};
-use uss_journal::Journal;
+use uss_journal::{Journal, JournalRefusal};
 
 /// A supplier's book on a disk: a list of entries, legal at every moment, each durable once it was entered. It owns its disk.
 #[derive(Drop)]
@@ -159,5 +160,80 @@ impl<D: Disk> Book<D> {
         } else {
             owned(alloc, journal, kept, &owner)
         }
+    }
+
+    /// Enters an entry that may follow: at Ok it is the last, and durable. A book that answers 141 is spent until it is mounted
+    /// again; the entry is then in the file in whole, or it isn't there. The journal is never full.
+    pub fn enter(&mut self, e: Entry) -> Result<(), BookFault>
+        requires { MayFollow self.old.entries e }
+        ensures answer { MatchResult result (λ _. Entered self.old e self.new) (λ r. EnterRefused D.fault_count self.old e r self.new) }
+        ensures count { D.fault_count self.old.disk ≤ D.fault_count self.new.disk }
+        ensures honest { D.is_honest self.new.disk ↔ D.is_honest self.old.disk }
+
+        // A crash at any moment of it leaves the book before it, or that with the new entry in whole; after Ok only the latter.
+        ensures crash { D.is_honest self.old.disk → self.old.spent ≡ None → CrashLeaves D.moment D.left_since
+            (BookWithOrWithout self.old.entries (Some e)) self.old.disk self.new.disk }
+        ensures durable { D.is_honest self.old.disk → OnOk result ((image : List ℕ) → D.may_leave self.new.disk image → StandsForBook self.new.entries image) }
+    {
+        if let Some(count) = self.spent {
+            return Err(BookFault::Spent(count));
+        }
+        self.kept.make_room()?;
+        let bytes = write(self.alloc, &e)?;
+        match self.journal.append(bytes.as_slice()) {
+            Ok(()) => {
+                self.used = self.journal.used();
+                self.kept.enter(e);
+                Ok(())
+            }
+            Err(JournalRefusal::Memory) => Err(BookFault::Memory),
+            Err(JournalRefusal::DiskFault) => {
+                self.spent = Some(self.journal.faults());
+                self.tried = Some(e);
+                Err(BookFault::DiskFault)
+            }
+            Err(
+                JournalRefusal::JournalFull
+                | JournalRefusal::NotAJournal(_)
+                | JournalRefusal::Spent(_),
+            ) => unreachable!(),
+        }
+    }
+
+    /// The entry with this number, from 0, the oldest first. Takes no memory.
+    pub fn entry(&self, n: u64) -> Option<&Entry>
+        ensures entry { option_copied result ≡ slice_get self.now.entries n }
+        ensures legal { IsLegal self.now.entries }
+    {
+        self.kept.as_slice().get(n as usize)
+    }
+
+    /// How many entries there are. Takes no memory.
+    pub fn len(&self) -> u64
+        ensures { result ≡ length self.now.entries }
+    {
+        self.kept.as_slice().len() as u64
+    }
+
+    /// The bytes of a journal of the entries: the file's, up to and with its last gate. Takes no memory.
+    pub fn used(&self) -> u64
+        ensures { result ≡ journal_length self.now.entries }
+    {
+        self.used
+    }
+
+    /// Gives the disk back.
+    pub fn release(self) -> D
+        ensures { result ≡ self.disk }
+    {
+        let Book {
+            alloc: _,
+            journal,
+            kept: _,
+            spent: _,
+            tried: _,
+            used: _,
+        } = self;
+        journal.release()
     }
 }

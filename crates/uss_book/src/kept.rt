@@ -7,6 +7,7 @@ ghost use Rattle.uss_book.specs.Book.{IsNext};
 use crate::reserve;
 use std::alloc::{AllocError, Global};
 use uss_event::Entry;
+use uss_legal::{Plain, is_due};
 
 /// The entries of a book, the oldest first. They are kept as a plain list: each test goes through all of it, and so does each answer.
 #[derive(Drop)]
@@ -52,8 +53,8 @@ impl Kept {
     pub(crate) fn is_due(&self, e: &Entry) -> bool
         ensures { IsTrue result ↔ IsNext self.now.entries.items e.now }
     {
-        let _ = e;
-        false
+        let entries = self.as_slice();
+        is_due(&Plain { entries }, e)
     }
 
     /// Whether the journal has the room that is to be kept free for these.

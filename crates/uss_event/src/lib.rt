@@ -20,7 +20,7 @@ pub use calls::{DssCall, Note, Outgoing, PeerCall, PeerReply, Sends};
 pub use details::{Candidate, Details, Proposal, Proposals};
 pub use entries::{Attempt, Ending, Entries, Entry, FlightIds, Owner, Tags};
 pub use events::{Answer, Event, Said};
-pub use pairs::{Pair, Pairs};
+pub use pairs::{Pair, Pairs, refusal_of};
 pub use refusals::DetailsRefusal;
 pub use rules::{RuleTable, Verdict};
 pub use steps::{Message, Party, Step, Stopped, WorldSteps};

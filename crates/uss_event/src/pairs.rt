@@ -1,4 +1,4 @@
-ghost use Rattle.std.specs.Prelude.{◌≡◌, ◌&&◌, ◌+◌, ◌≤◌, nat_lt, nat_le, int_le, length, IsTrue};
+ghost use Rattle.std.specs.Prelude.{◌≡◌, ◌&&◌, ◌+◌, ◌≤◌, nat_lt, nat_le, int_le, length, is_none, IsTrue};
 ghost use Rattle.std.specs.Bool.{OnTrue};
 ghost use Rattle.std.specs.List.{list_all, list_any};
 ghost use Rattle.std.specs.Ordering.{int_eq};
@@ -100,15 +100,16 @@ fn is_plan(state: State, details: &Details) -> bool
         && details.priority <= 1000
 }
 
-/// The first reason why these are no details.
-#[tactic(auto, unfolding(crate::specs::Refusals::refusal_of))]
-pub(crate) fn refusal_of(
+/// The first reason why these are no details of an intent in this state: none exactly where they are. Takes no memory.
+#[tactic(auto, unfolding(crate::specs::Refusals::refusal_of, crate::specs::Plans::is_plan))]
+pub fn refusal_of(
     state: State,
     volumes: &[Volume4],
     off_nominal: &[Volume4],
     priority: u16,
 ) -> Option<DetailsRefusal>
-    ensures { result ≡ refusal_of state volumes.now off_nominal.now priority }
+    ensures value { result ≡ refusal_of state volumes.now off_nominal.now priority }
+    ensures plan { is_none result ≡ is_plan state volumes.now off_nominal.now priority }
 {
     if !are_few(volumes, off_nominal) {
         return Some(DetailsRefusal::TooManyVolumes);

@@ -1,3 +1,6 @@
 pub mod Direct
 pub mod Last
 pub mod Tested
+pub mod Ended
+pub mod HeldState
+pub mod AnyEntry

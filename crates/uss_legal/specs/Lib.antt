@@ -1,2 +1,5 @@
 pub mod Speaks
 pub mod Due
+pub mod Ends
+pub mod States
+pub mod Next

@@ -5,8 +5,11 @@
 #![tactic(auto)]
 
 mod due;
+mod ends;
 mod flights;
 mod law;
+mod next;
+mod opens;
 mod plain;
 mod speaks;
 mod tells;
@@ -14,6 +17,9 @@ mod tells;
 mod tests;
 
 pub use due::{may_decide, may_hold, may_open_ticket, may_retire, may_tell, may_try};
+pub use ends::may_end;
 pub use law::tests_are_exact;
+pub use next::is_due;
+pub use opens::may_open;
 pub use plain::Plain;
 pub use tells::Tells;

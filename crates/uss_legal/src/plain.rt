@@ -20,6 +20,13 @@ pub struct Plain<'a> {
 impl<'a> Tells for Plain<'a> {
     ghost entries = { λ p. p.entries.now };
 
+    fn is_new(&self) -> bool {
+        match self.entries {
+            [] => true,
+            [_, ..] => false,
+        }
+    }
+
     fn jobs(&self) -> usize {
         kind_count(self.entries, 2)
     }

@@ -1,4 +1,6 @@
 use Rattle.uss_legal.proofs.Tested.{open_from, open_true, open_ticket_from, open_ticket_true, try_from, try_true, hold_from, hold_true, decide_from, decide_true, retire_from, retire_true, tell_from, tell_true}
+use Rattle.uss_legal.proofs.Ended.{end_from, end_true}
+use Rattle.uss_legal.proofs.AnyEntry.{due_from, due_true}
 use Rattle.uss_legal.proofs.law.tests_are_exact.Goals as goal
 
 pub returns-clause-opening : goal.returns-clause-opening
@@ -21,3 +23,9 @@ returns-clause-retirement c = λ es job. (retire_from es job, retire_true es job
 
 pub returns-clause-answer : goal.returns-clause-answer
 returns-clause-answer c = λ es job place. (tell_from es job place, tell_true es job place)
+
+pub returns-clause-end_of : goal.returns-clause-end_of
+returns-clause-end_of c = λ es job end. (end_from es job end, end_true es job end)
+
+pub returns-clause-any_entry : goal.returns-clause-any_entry
+returns-clause-any_entry c = λ es e. (due_from es e, due_true es e)
