@@ -1,3 +1,4 @@
+pub mod Entering
 pub mod Lengths
 pub mod Mount
 pub mod Records

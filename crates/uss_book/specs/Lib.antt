@@ -1,4 +1,6 @@
+pub mod Append
 pub mod Book
 pub mod Judge
 pub mod Refusal
+pub mod Shares
 pub mod Whole

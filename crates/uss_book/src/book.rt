@@ -9,6 +9,7 @@ ghost use Rattle.uss_law_book.specs.Legal.{MayFollow, IsLegal};
 ghost use Rattle.uss_book.specs.Book.{StandsForBook, BookWithOrWithout, IsFound, new_book, records_of};
 ghost use Rattle.uss_book.specs.Refusal.{Entered, EnterRefused, MountRefused, RefusedBy, SaysNothing, IsAnothers, disk_after};
 
+use crate::append::{Outcome, append, discard, keep_tried, prepare};
 use crate::kept::Kept;
 use crate::load::load;
 use crate::owner::{into_owner, is_of};
@@ -16,10 +17,9 @@ use crate::start::start;
 use crate::{BookFault, BookRefusal};
 use std::alloc::Global;
 use std::marker::Model;
-use uss_coding::write;
 use uss_disk::Disk;
 use uss_event::{Entry, Owner};
-use uss_journal::{Journal, JournalRefusal};
+use uss_journal::Journal;
 
 /// A supplier's book on a disk: a list of entries, legal at every moment, each durable once it was entered. It owns its disk.
 #[derive(Drop)]
@@ -176,27 +176,31 @@ impl<D: Disk> Book<D> {
         ensures durable { D.is_honest self.old.disk → OnOk result ((image : List ℕ) → D.may_leave self.new.disk image → StandsForBook self.new.entries image) }
     {
         if let Some(count) = self.spent {
+            discard(e);
             return Err(BookFault::Spent(count));
         }
-        self.kept.make_room()?;
-        let bytes = write(self.alloc, &e)?;
-        match self.journal.append(bytes.as_slice()) {
-            Ok(()) => {
+        let bytes = match prepare(self.alloc, &mut self.kept, &e) {
+            Ok(bytes) => bytes,
+            Err(_) => {
+                discard(e);
+                return Err(BookFault::Memory);
+            }
+        };
+        match append(&mut self.journal, bytes.as_slice()) {
+            Outcome::Done => {
                 self.used = self.journal.used();
                 self.kept.enter(e);
                 Ok(())
             }
-            Err(JournalRefusal::Memory) => Err(BookFault::Memory),
-            Err(JournalRefusal::DiskFault) => {
+            Outcome::Faulted => {
                 self.spent = Some(self.journal.faults());
-                self.tried = Some(e);
+                keep_tried(&mut self.tried, e);
                 Err(BookFault::DiskFault)
             }
-            Err(
-                JournalRefusal::JournalFull
-                | JournalRefusal::NotAJournal(_)
-                | JournalRefusal::Spent(_),
-            ) => unreachable!(),
+            Outcome::Unroomy => {
+                discard(e);
+                Err(BookFault::Memory)
+            }
         }
     }
 

@@ -1,6 +1,7 @@
 //! A supplier's book: typed entries over a journal, legal at every moment.
 #![tactic(auto)]
 
+mod append;
 mod book;
 mod judge;
 mod kept;
