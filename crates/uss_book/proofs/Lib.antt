@@ -1,3 +1,4 @@
+pub mod Counted
 pub mod Entering
 pub mod Lengths
 pub mod Mount
