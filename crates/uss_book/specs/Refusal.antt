@@ -131,3 +131,8 @@ IsAnothers entries owner (NotAJournal place) = ⊥
 IsAnothers entries owner (Spent count) = ⊥
 IsAnothers entries owner (BadEntry n) = ⊥
 IsAnothers entries owner (Changed n) = ⊥
+
+-- the disk after the entries of a file were viewed
+abbrev pub disk_viewed : {D : Type 0} → Result (List Entry × D) (BookRefusal D) → D
+disk_viewed (Ok found) = found.1
+disk_viewed (Err refused) = refused.back

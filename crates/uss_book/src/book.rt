@@ -1,9 +1,10 @@
 ghost use Rattle.std.specs.Prelude.{◌≡◌, ◌↔◌, ◌≢◌, ◌≤◌, ◌⊎◌, ◌∷◌, ◌++◌, [], List, ℕ, length, Some, None, IfOk, IfErr, OnOk, MatchResult, slice_get};
-ghost use Rattle.std.specs.Option.{option_copied};
+ghost use Rattle.std.specs.Option.{option_copied, option_map};
 ghost use Rattle.uss_event.specs.declared.entries.Entry.{Entry};
 ghost use Rattle.uss_disk.specs.Disk.{bytes_of, CrashLeaves};
 ghost use Rattle.uss_journal.specs.Format.{stands_for};
 ghost use Rattle.uss_law_book.specs.Lists.{owner_of};
+ghost use Rattle.uss_law_book.specs.Readings.{open_job_of, last_of, trials_of, owns};
 ghost use Rattle.uss_law_book.specs.Coding.{journal_length};
 ghost use Rattle.uss_law_book.specs.Legal.{MayFollow, IsLegal};
 ghost use Rattle.uss_book.specs.Book.{StandsForBook, BookWithOrWithout, IsFound, new_book, records_of};
@@ -13,6 +14,7 @@ use crate::append::{Outcome, append, discard, keep_tried, prepare};
 use crate::kept::Kept;
 use crate::load::load;
 use crate::owner::{into_owner, is_of};
+use crate::readers::{job_of, request_of};
 use crate::start::start;
 use crate::{BookFault, BookRefusal};
 use std::alloc::Global;
@@ -20,6 +22,7 @@ use std::marker::Model;
 use uss_disk::Disk;
 use uss_event::{Entry, Owner};
 use uss_journal::Journal;
+use uss_legal::Tells;
 
 /// A supplier's book on a disk: a list of entries, legal at every moment, each durable once it was entered. It owns its disk.
 #[derive(Drop)]
@@ -224,6 +227,34 @@ impl<D: Disk> Book<D> {
         ensures { result ≡ journal_length self.now.entries }
     {
         self.used
+    }
+
+    /// The flight's open job. Takes no memory.
+    pub fn live_job(&self, flight: u64) -> Option<u64>
+        ensures { result ≡ option_map (λ o. o.job) (open_job_of flight self.now.entries) }
+    {
+        job_of(self.kept.tells().open_job(flight))
+    }
+
+    /// The number of the flight's last request, which is its greatest, and its job. Takes no memory.
+    pub fn last(&self, flight: u64) -> Option<(u64, u64)>
+        ensures { result ≡ option_map (λ o. (o.ask.number, o.job)) (last_of flight self.now.entries) }
+    {
+        request_of(self.kept.tells().last(flight))
+    }
+
+    /// How many attempts the job made. Takes no memory.
+    pub fn attempts(&self, job: u64) -> usize
+        ensures { result ≡ length (trials_of job self.now.entries) }
+    {
+        self.kept.tells().attempts(job)
+    }
+
+    /// Whether the tag is that of an attempt of the job. Takes no memory.
+    pub fn owns(&self, job: u64, tag: u64) -> bool
+        ensures { result ≡ owns job tag self.now.entries }
+    {
+        self.kept.tells().owns(job, tag)
     }
 
     /// Gives the disk back.

@@ -49,12 +49,20 @@ impl Kept {
         self.entries.as_slice()
     }
 
+    /// What they tell.
+    pub(crate) fn tells(&self) -> Plain<'_>
+        ensures { result.entries.now ≡ self.now.entries.items }
+    {
+        Plain {
+            entries: self.as_slice(),
+        }
+    }
+
     /// Whether the entry is due after these.
     pub(crate) fn is_due(&self, e: &Entry) -> bool
         ensures { IsTrue result ↔ IsNext self.now.entries.items e.now }
     {
-        let entries = self.as_slice();
-        is_due(&Plain { entries }, e)
+        is_due(&self.tells(), e)
     }
 
     /// Whether the journal has the room that is to be kept free for these.

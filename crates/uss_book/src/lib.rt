@@ -7,9 +7,12 @@ mod judge;
 mod kept;
 mod load;
 mod owner;
+mod readers;
 mod refusal;
 mod reserve;
 mod start;
+mod viewed;
 
 pub use book::Book;
 pub use refusal::{BookFault, BookRefusal};
+pub use viewed::view;
