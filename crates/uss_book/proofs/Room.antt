@@ -66,8 +66,14 @@ written_by job es = sum_by (weight job) es
 sum_two : (e : Entry) (es : List Entry) (os : List Opening) → sum_by (λ (o : Opening). written_by o.job (e ∷ es)) os ≡ sum_by (λ (o : Opening). weight o.job e) os + sum_by (λ (o : Opening). written_by o.job es) os
 sum_two e es [] = refl
 sum_two e es (o ∷ os) =
-    omega (arith, sum_two e es os, sum_by-cons (λ (p : Opening). written_by p.job (e ∷ es)) o os, sum_by-cons (λ (p : Opening). weight p.job e) o os,
-    sum_by-cons (λ (p : Opening). written_by p.job es) o os, sum_by-cons (weight o.job) e es)
+    omega (
+      arith,
+      sum_two e es os,
+      sum_by-cons (λ (p : Opening). written_by p.job (e ∷ es)) o os,
+      sum_by-cons (λ (p : Opening). weight p.job e) o os,
+      sum_by-cons (λ (p : Opening). written_by p.job es) o os,
+      sum_by-cons (weight o.job) e es,
+    )
 
 at_least : (f : Opening → ℕ) (os : List Opening) (o : Opening) → Has os o → f o ≤ sum_by f os
 at_least f [] o h = absurd h

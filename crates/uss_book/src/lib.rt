@@ -11,6 +11,8 @@ mod readers;
 mod refusal;
 mod reserve;
 mod start;
+#[cfg(test)]
+mod tests;
 mod viewed;
 
 pub use book::Book;

@@ -12,6 +12,7 @@ pub returns : goal.returns
 returns c =
     let es = c.args.entries.now in
     let all : take c.loop-e.e-index es ≡ es = take_all c.loop-e.e-index es c.loop-e-test.false in
-    let total : c.loop-e.total ≡ reserved es = c.loop-e.invariant.0 ∙ ap (λ (l : List Entry). 9 + sum_by (share es) l) all ∙ sym (reserved_is es) in
-    (λ is. let le = leb-true c.loop-e.total c.from.result is in omega (arith, le, total, c.from.ensures),
-    λ covers. le-leb c.loop-e.total c.from.result (omega (arith, covers, total, c.from.ensures)))
+    let total : c.loop-e.total ≡ reserved es = c.loop-e.invariant.0 ∙ ap (λ (l : List Entry). 9 + sum_by (share es) l) all ∙ sym (reserved_is es) in (
+      λ is. let le = leb-true c.loop-e.total c.from.result is in omega (arith, le, total, c.from.ensures),
+      λ covers. le-leb c.loop-e.total c.from.result (omega (arith, covers, total, c.from.ensures)),
+    )

@@ -7,6 +7,7 @@ use Rattle.uss_book.proofs.kept.Kept.is_due.Goals as goal
 pub returns : goal.returns
 returns c =
     let es = c.args.self.now.entries.items in
-    let same : c.is_due.result ≡ is_due es c.args.e.now = c.is_due.ensures ∙ ap (λ (l : List Entry). is_due l c.args.e.now) c.tells.ensures in
-    (λ is. let d = due_from es c.args.e.now (sym same ∙ is) in record { first = d.0; due = d.1 },
-    λ next. same ∙ due_true es c.args.e.now (next.first, next.due))
+    let same : c.is_due.result ≡ is_due es c.args.e.now = c.is_due.ensures ∙ ap (λ (l : List Entry). is_due l c.args.e.now) c.tells.ensures in (
+      λ is. let d = due_from es c.args.e.now (sym same ∙ is) in record { first = d.0; due = d.1 },
+      λ next. same ∙ due_true es c.args.e.now (next.first, next.due),
+    )
