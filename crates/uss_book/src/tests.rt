@@ -37,7 +37,7 @@ fn file_of(alloc: Global, records: &[&[u8]]) -> Result<Vec<u8>, AllocError> {
     let mut file = Vec::from_slice(alloc, b"USSJ0001")?;
     for record in records {
         file.push(1)?;
-        file.extend_from_slice(&(record.len() as u32 % 65536).to_be_bytes())?;
+        file.extend_from_slice(&((record.len() % 65536) as u32).to_be_bytes())?;
         file.extend_from_slice(record)?;
     }
     file.push(0)?;
