@@ -5,3 +5,4 @@ pub mod Mount
 pub mod Records
 pub mod Room
 pub mod FirstEntry
+pub mod Rereading
