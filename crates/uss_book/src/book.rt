@@ -55,6 +55,7 @@ impl<D: Disk> Model for Book<D> {
 fn made<D: Disk>(alloc: Global, journal: Journal<D>, kept: Kept) -> Book<D>
     requires legal { IsLegal kept.entries.items }
     requires unspent { journal.spent ≡ None }
+    requires untried { journal.tried ≡ None }
     requires records { records_of kept.entries.items ≡ journal.records }
     requires left { D.is_honest journal.disk → (image : List ℕ) → D.may_leave journal.disk image → StandsForBook kept.entries.items image }
     ensures disk { result.disk ≡ journal.disk }
@@ -83,6 +84,7 @@ fn owned<D: Disk>(
     requires legal { IsLegal kept.entries.items }
     requires some { kept.entries.items ≢ [] }
     requires unspent { journal.spent ≡ None }
+    requires untried { journal.tried ≡ None }
     requires records { records_of kept.entries.items ≡ journal.records }
     requires left { D.is_honest journal.disk → (image : List ℕ) → D.may_leave journal.disk image → StandsForBook kept.entries.items image }
     ensures entries { IfOk result (λ b. b.entries ≡ kept.entries.items) }
