@@ -1,6 +1,7 @@
 -- A further entry of a book.
 use Rattle.std.proofs.Common.{ℕ, ◌+◌, ◌≤◌, List, [], ◌∷◌, ◌++◌, ◌≡◌, ◌⊎◌, inl, inr, ⊎_elim, length, map, refl, sym, ap, subst, ◌∙◌, arith, Option, Some, None, IfSome, Ok}
 use Rattle.std.proofs.lemmas.List.{map-append}
+use Rattle.std.specs.Prelude.{IsSomeAnd}
 use Rattle.uss_disk.specs.Disk.{CrashLeaves}
 use Rattle.uss_disk.specs.Crash.{crash_weaker}
 use Rattle.uss_event.specs.declared.entries.Entry.{Entry}
@@ -44,6 +45,12 @@ pub with_book : (es : List Entry) (e : Entry) (records : List (List ℕ)) (bytes
 with_book es e records bytes image is coded (inl without) = inl (without ∙ ap (λ (rs : List (List ℕ)). Ok rs) is)
 with_book es e records bytes image is coded (inr with') = inr (with' ∙ ap (λ (rs : List (List ℕ)). Ok rs) (records_after es e records bytes is coded))
 
+-- a journal that wasn't tried stands for the book
+pub as_read : (es : List Entry) (records : List (List ℕ)) (tried : Option (List ℕ)) (t : Option Entry) (image : List ℕ) → records ≡ records_of es → tried ≡ None → WithOrWithout records tried image → BookWithOrWithout es t image
+as_read es records tried t image is none p =
+    ⊎_elim (λ without. inl (without ∙ ap (λ (rs : List (List ℕ)). Ok rs) is))
+    (λ with'. absurd (subst (λ (x : Option (List ℕ)). IsSomeAnd x (λ entry. StandsFor (records ++ entry ∷ []) image)) none with')) p
+
 pub enter_crash : {D : Type 0} (moment : D → ℕ) (left_since : D → ℕ → List ℕ → Type 0) (old new : D) (es : List Entry) (e : Entry) (records : List (List ℕ)) (bytes : List ℕ) → records ≡ records_of es → bytes ≡ coding_of e
     → CrashLeaves moment left_since (WithOrWithout records (Some bytes)) old new → CrashLeaves moment left_since (BookWithOrWithout es (Some e)) old new
 enter_crash moment left_since old new es e records bytes is coded leaves =
@@ -64,6 +71,7 @@ module _ {D : Type 0} (may_leave : D → List ℕ → Type 0) (is_honest : D →
         untried = whole.untried;
         follows = subst (λ (t : Option Entry). IfSome t (MayFollow now)) (sym (whole.untried unspent)) tt;
         left = λ honest image may. inl (durable honest image may ∙ ap (λ (rs : List (List ℕ)). Ok rs) records);
+        agrees = λ honest image p. as_read now new.records new.tried tried image records done.settled p;
       }
 
   pub faulted_whole : (fault_count : D → ℕ) (now : List Entry) (count : ℕ) → AppendFaulted fault_count old bytes new → now ≡ es
@@ -79,6 +87,8 @@ module _ {D : Type 0} (may_leave : D → List ℕ → Type 0) (is_honest : D →
         untried = λ none. absurd (cc);
         follows = m;
         left = λ honest image may. with_book es e old.records bytes image (whole.records unspent) coded (left honest image may);
+        agrees = λ honest image p. with_book es e old.records bytes image (whole.records unspent) coded
+            (subst (λ (t : Option (List ℕ)). WithOrWithout old.records t image) fault.tried (subst (λ (rs : List (List ℕ)). WithOrWithout rs new.tried image) fault.records p));
       })
 
 pub none_from_not : {X : Type 0} (o : Option X) → ((x : X) → o ≡ Some x → ⊥) → o ≡ None

@@ -5,3 +5,5 @@ pub mod Mount
 pub mod Records
 pub mod Room
 pub mod FirstEntry
+pub mod Rereading
+pub mod Mounting

@@ -9,10 +9,12 @@ ghost use Rattle.uss_law_book.specs.Coding.{journal_length};
 ghost use Rattle.uss_law_book.specs.Legal.{MayFollow, IsLegal};
 ghost use Rattle.uss_book.specs.Book.{StandsForBook, BookWithOrWithout, IsFound, new_book, records_of};
 ghost use Rattle.uss_book.specs.Refusal.{Entered, EnterRefused, MountRefused, RefusedBy, SaysNothing, IsAnothers, disk_after};
+ghost use Rattle.uss_book.specs.Reread.{Remounted, RemountRefused};
 
 use crate::append::{Outcome, append, discard, keep_tried, prepare};
 use crate::kept::Kept;
-use crate::load::load;
+use crate::load::{load, passed_on};
+use crate::reread::{after_refusal, apart, forget, reread};
 use crate::owner::{into_owner, is_of};
 use crate::readers::{job_of, request_of};
 use crate::start::start;
@@ -53,6 +55,7 @@ impl<D: Disk> Model for Book<D> {
 fn made<D: Disk>(alloc: Global, journal: Journal<D>, kept: Kept) -> Book<D>
     requires legal { IsLegal kept.entries.items }
     requires unspent { journal.spent ≡ None }
+    requires untried { journal.tried ≡ None }
     requires records { records_of kept.entries.items ≡ journal.records }
     requires left { D.is_honest journal.disk → (image : List ℕ) → D.may_leave journal.disk image → StandsForBook kept.entries.items image }
     ensures disk { result.disk ≡ journal.disk }
@@ -81,6 +84,7 @@ fn owned<D: Disk>(
     requires legal { IsLegal kept.entries.items }
     requires some { kept.entries.items ≢ [] }
     requires unspent { journal.spent ≡ None }
+    requires untried { journal.tried ≡ None }
     requires records { records_of kept.entries.items ≡ journal.records }
     requires left { D.is_honest journal.disk → (image : List ℕ) → D.may_leave journal.disk image → StandsForBook kept.entries.items image }
     ensures entries { IfOk result (λ b. b.entries ≡ kept.entries.items) }
@@ -203,6 +207,41 @@ impl<D: Disk> Book<D> {
             Outcome::Unroomy => {
                 discard(e);
                 Err(BookFault::Memory)
+            }
+        }
+    }
+
+    /// Mounts again what its own disk holds: its entries, or these with the one that was tried. A book that other records were read of
+    /// than its own is spent; after any other refusal it is as it was, but for its disk.
+    pub fn remount(&mut self) -> Result<(), BookFault>
+        ensures answer { MatchResult result (λ _. Remounted self.old self.new) (λ r. RemountRefused D.fault_count self.old r self.new) }
+        ensures count { D.fault_count self.old.disk ≤ D.fault_count self.new.disk }
+        ensures honest { D.is_honest self.new.disk ↔ D.is_honest self.old.disk }
+
+        // On an honest disk the entries are those before it, or these with the one that was tried, and it is refused by a fault or for
+        // want of memory alone.
+        ensures found { D.is_honest self.old.disk → MatchResult result (λ _. StandsForBook self.new.entries (bytes_of (D.reads self.old.disk))) SaysNothing }
+        ensures kept { D.is_honest self.old.disk → BookWithOrWithout self.old.entries self.old.tried (bytes_of (D.reads self.old.disk)) }
+        ensures durable { D.is_honest self.old.disk → OnOk result ((image : List ℕ) → D.may_leave self.new.disk image → StandsForBook self.new.entries image) }
+        ensures crash { D.is_honest self.old.disk → CrashLeaves D.moment D.left_since
+            (BookWithOrWithout self.old.entries self.old.tried) self.old.disk self.new.disk }
+    {
+        if let Err(refusal) = self.journal.remount() {
+            let fault = passed_on(refusal);
+            self.spent = after_refusal(&fault, self.spent, self.journal.faults());
+            return Err(fault);
+        }
+        match reread(self.alloc, &self.journal, self.kept.as_slice()) {
+            Ok(kept) => {
+                self.used = self.journal.used();
+                self.kept = kept;
+                self.spent = None;
+                forget(&mut self.tried);
+                Ok(())
+            }
+            Err(fault) => {
+                self.spent = apart(self.spent, self.journal.faults());
+                Err(fault)
             }
         }
     }

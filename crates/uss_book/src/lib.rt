@@ -9,6 +9,7 @@ mod load;
 mod owner;
 mod readers;
 mod refusal;
+mod reread;
 mod reserve;
 mod start;
 #[cfg(test)]

@@ -9,7 +9,7 @@ use crate::kept::Kept;
 use uss_event::{Entry, Owner};
 
 /// Whether both are one owner: each of their parts is the same.
-fn is_same(a: &Owner, b: &Owner) -> bool
+pub(crate) fn is_same(a: &Owner, b: &Owner) -> bool
     ensures { IsTrue result ↔ (a.now ≡ b.now) }
 {
     a.number == b.number

@@ -32,7 +32,7 @@ pub(crate) fn start<D: Disk>(
     ensures entries { OnOk result (kept.new.entries.items ≡ new_book owner) }
     ensures legal { OnOk result (IsLegal kept.new.entries.items) }
     ensures records { OnOk result (records_of kept.new.entries.items ≡ journal.new.records) }
-    ensures unspent { OnOk result (journal.new.spent ≡ None) }
+    ensures unspent { OnOk result ((journal.new.spent ≡ None) × (journal.new.tried ≡ None)) }
     ensures count { D.fault_count journal.old.disk ≤ D.fault_count journal.new.disk }
     ensures honest { D.is_honest journal.new.disk ↔ D.is_honest journal.old.disk }
     ensures durable { D.is_honest journal.old.disk → OnOk result ((image : List ℕ) → D.may_leave journal.new.disk image → StandsForBook kept.new.entries.items image) }

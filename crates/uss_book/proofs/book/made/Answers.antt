@@ -1,6 +1,7 @@
-use Rattle.std.proofs.Common.{◌∙◌, inl, refl, sym, ap}
+use Rattle.std.proofs.Common.{◌∙◌, inl, refl, sym, ap, None}
 use Rattle.uss_journal.specs.Format.{used_of}
 use Rattle.uss_book.proofs.Lengths.{used_is}
+use Rattle.uss_book.proofs.Entering.{as_read}
 use Rattle.uss_book.proofs.book.made.Goals as goal
 
 pub invariant_of-result : goal.invariant_of-result
@@ -13,4 +14,5 @@ invariant_of-result g c =
       untried = λ now. refl;
       follows = tt;
       left = λ honest image may. inl (c.requires.left honest image may);
+      agrees = λ honest image p. as_read c.args.kept.entries.items c.args.journal.records c.args.journal.tried None image (sym c.requires.records) c.requires.untried p;
     }
