@@ -87,7 +87,7 @@ module _ {D : Type 0} (may_leave : D → List ℕ → Type 0) (is_honest : D →
       → IsWhole may_leave is_honest new es (apart spent faults) tried used
   apart_whole faults file settled found kept durable =
       let as_file : (image : List ℕ) → is_honest new.disk → StandsFor new.records image → BookWithOrWithout es tried image =
-          λ image honest stands. same_book es tried image file (stands ∙ sym (found (still honest))) (whole.agrees (still honest) file (kept (still honest))) in
+      λ image honest stands. same_book es tried image file (stands ∙ sym (found (still honest))) (whole.agrees (still honest) file (kept (still honest))) in
       record {
         legal = whole.legal;
         used_is = whole.used_is;

@@ -61,7 +61,7 @@ no_bad es n h b =
     let m : MayAllFollow (take n es) (x ∷ drop (suc n) es) = subst (MayAllFollow (take n es)) at rest in
     let same : b.before ≡ take n es = same_entries b.before (take n es) (legal_coded b.before b.legal) (legal_coded (take n es) front) (b.front ∙ take-map coding_of n es) in
     let found : slice_get (records_of es) n ≡ Some (coding_of x) =
-        slice_get-get_or (records_of es) n (coding_of d) b.within ∙ ap (λ (r : List ℕ). Some r) (get_or-map coding_of es n d (coding_of d) low) in
+    slice_get-get_or (records_of es) n (coding_of d) b.within ∙ ap (λ (r : List ℕ). Some r) (get_or-map coding_of es n d (coding_of d) low) in
     b.bad x (subst (λ (l : List Entry). MayFollow l x) (sym same) m.0) found
 
 -- a legal book that goes on from the known entries, and that is read again, is refused for want of memory alone

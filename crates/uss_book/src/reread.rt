@@ -1,7 +1,6 @@
 // What was read again is compared with the entries that were known.
 ghost use Rattle.std.specs.Prelude.{◌≡◌, ◌↔◌, ◌≢◌, [], IsTrue, IfOk, IfErr, MatchOption, Some, None, length, All};
 ghost use Rattle.std.specs.Option.{option_copied};
-
 ghost use Rattle.uss_law_book.specs.Coding.{HasCoding};
 ghost use Rattle.uss_law_book.specs.Legal.{IsLegal};
 ghost use Rattle.uss_law_book.specs.Lists.{owner_of};

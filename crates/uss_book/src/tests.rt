@@ -217,3 +217,24 @@ fn a_book_tells_of_its_flights(rt: HostRuntime) -> Result<(), Fail> {
     }
     Ok(())
 }
+
+#[test]
+fn a_book_is_mounted_again(rt: HostRuntime) -> Result<(), Fail> {
+    let alloc = rt.alloc();
+    let file = file_of(alloc, &[OWNER, PLAN, TICKET])?;
+    // A mount makes three calls; the fifth is the second of a remount.
+    let disk = MemoryDisk::with_bytes(alloc, &file, vec![in alloc; 5]?)?;
+    let mut book = match Book::mount(alloc, disk, owner_of(&rt, alloc)?) {
+        Ok(book) => book,
+        Err(_) => rt.abort(),
+    };
+    match book.remount() {
+        Ok(()) => rt.abort(),
+        Err(fault) => assert_eq!(rt; number_of(&fault), (141, 0)),
+    }
+    assert_eq!(rt; book.len(), 3);
+    assert!(rt; book.remount().is_ok());
+    assert_eq!(rt; book.len(), 3);
+    assert_eq!(rt; book.release().bytes(), file.as_slice());
+    Ok(())
+}

@@ -14,7 +14,7 @@ invariant_of-self g c =
     let D = g.D.Disk in
     let old = c.self.inside in
     let is : after_refusal (passed_on c.in-Err.refusal) old.spent c.faults.result ≡ c.after_refusal-self-inside.result =
-        ap (λ (f : BookFault). after_refusal f old.spent c.faults.result) (sym c.passed_on-fault.ensures) ∙ sym c.after_refusal-self-inside.ensures in
+    ap (λ (f : BookFault). after_refusal f old.spent c.faults.result) (sym c.passed_on-fault.ensures) ∙ sym c.after_refusal-self-inside.ensures in
     subst (λ (s : Option ℕ). IsWhole D.may_leave D.is_honest c.remount.new.self old.kept.entries.items s old.tried old.used) is
     (refused_whole D.may_leave D.is_honest old.journal c.remount.new.self old.kept.entries.items old.spent old.tried old.used c.self.invariant c.remount.ensures.honest.0
     D.fault_count c.in-Err.refusal c.faults.result c.in-Err.ensures.answer
