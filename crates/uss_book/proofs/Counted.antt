@@ -1,10 +1,9 @@
 -- The room that is counted entry by entry is the room of the law.
-use Rattle.std.proofs.Common.{ℕ, zero, suc, ◌+◌, ◌*◌, ◌<◌, ◌≤◌, ◌==◌, Bool, true, false, cond, not, find, List, [], ◌∷◌, ◌++◌, ◌≡◌, inl, inr, filter, length, refl, ap, sym, subst, ◌∙◌, arith, Option, Some, None, length-append}
+use Rattle.std.proofs.Common.{ℕ, zero, suc, ◌+◌, ◌*◌, ◌≤◌, ◌==◌, Bool, true, false, cond, not, find, List, [], ◌∷◌, ◌++◌, ◌≡◌, inl, inr, filter, length, refl, ap, subst, ◌∙◌, arith, Option, Some, None, length-append}
 use Rattle.std.specs.Prelude.{All}
 use Rattle.std.specs.List.{sum_by, range_with_len}
 use Rattle.std.proofs.lemmas.List.Elements.{All-head, All-tail, filter-append}
 use Rattle.std.proofs.lemmas.List.Sums.{sum_by-cons}
-use Rattle.uss_intent.specs.declared.records.Subscriber.{Subscriber}
 use Rattle.uss_event.specs.declared.entries.Ending.{Ending}
 use Rattle.uss_event.specs.declared.entries.Ending.TheVariants.{Conflict, Stale, Cancelled, Ended}
 use Rattle.uss_event.specs.declared.entries.Entry.{Entry}
@@ -14,8 +13,8 @@ use Rattle.uss_law_dss.proofs.Lists.{find_has}
 use Rattle.uss_law_book.specs.Lists.{Opening, Holding, Closing, openings, holdings, endings}
 use Rattle.uss_law_book.specs.Readings.{is_closed, untold, keeps_ticket, holding_of, ending_of, owed_at_end, owed_by, owed_of}
 use Rattle.uss_law_book.specs.Coding.{HasCoding, IsEnding, record_length, journal_length}
-use Rattle.uss_law_book.specs.Reserve.{is_reserved, open_jobs, untold_count, kept_tickets, need, settled, reserved}
-use Rattle.uss_book.specs.Shares.{room_of, room_for, share}
+use Rattle.uss_law_book.specs.Reserve.{is_reserved, need, reserved}
+use Rattle.uss_book.specs.Shares.{room_for, share}
 
 -- ---- how many are owed
 

@@ -1,11 +1,11 @@
 -- A further entry of a book.
-use Rattle.std.proofs.Common.{ℕ, ◌+◌, ◌≤◌, List, [], ◌∷◌, ◌++◌, ◌≡◌, ◌⊎◌, inl, inr, ⊎_elim, length, map, refl, sym, ap, subst, ◌∙◌, arith, Option, Some, None, IfSome, Ok}
+use Rattle.std.proofs.Common.{ℕ, ◌+◌, ◌≤◌, List, [], ◌∷◌, ◌++◌, ◌≡◌, inl, inr, ⊎_elim, length, refl, sym, ap, subst, ◌∙◌, arith, Option, Some, None, IfSome, Ok}
 use Rattle.std.proofs.lemmas.List.{map-append}
 use Rattle.std.specs.Prelude.{IsSomeAnd}
 use Rattle.uss_disk.specs.Disk.{CrashLeaves}
 use Rattle.uss_disk.specs.Crash.{crash_weaker}
 use Rattle.uss_event.specs.declared.entries.Entry.{Entry}
-use Rattle.uss_journal.specs.Format.{stands_for, used_of, limit}
+use Rattle.uss_journal.specs.Format.{used_of, limit}
 use Rattle.uss_journal.specs.Journal.{JournalView, StandsFor, WithOrWithout}
 use Rattle.uss_journal.specs.Refusal.{Appended, AppendRefused, AppendFaulted}
 use Rattle.uss_journal.specs.declared.refusal.JournalRefusal.{JournalRefusal}

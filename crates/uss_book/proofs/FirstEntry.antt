@@ -1,12 +1,12 @@
 -- A new book.
-use Rattle.std.proofs.Common.{ℕ, ◌+◌, ◌≤◌, List, [], ◌∷◌, ◌++◌, ◌≡◌, ◌⊎◌, inl, inr, ⊎_elim, length, refl, sym, ap, subst, ◌∙◌, arith, Option, Some, None, Ok}
+use Rattle.std.proofs.Common.{ℕ, ◌+◌, ◌≤◌, List, [], ◌∷◌, ◌++◌, ◌≡◌, ◌⊎◌, inl, inr, ⊎_elim, length, refl, sym, ap, subst, ◌∙◌, arith, Some, None, Ok}
 use Rattle.uss_disk.specs.Disk.{CrashLeaves}
 use Rattle.uss_disk.specs.Crash.{crash_weaker}
 use Rattle.uss_event.specs.declared.entries.Owner.{Owner}
 use Rattle.uss_event.specs.declared.entries.Entry.{Entry}
 use Rattle.uss_event.specs.declared.entries.Entry.TheVariants as Enters
 use Rattle.uss_journal.specs.Format.{stands_for, used_of, limit}
-use Rattle.uss_journal.specs.Journal.{JournalView, StandsFor, WithOrWithout}
+use Rattle.uss_journal.specs.Journal.{JournalView, WithOrWithout}
 use Rattle.uss_journal.specs.Refusal.{AppendRefused}
 use Rattle.uss_journal.specs.declared.refusal.JournalRefusal.{JournalRefusal}
 use Rattle.uss_journal.specs.declared.refusal.JournalRefusal.TheVariants.{DiskFault, JournalFull, NotAJournal, Spent, Memory}
@@ -15,7 +15,7 @@ use Rattle.uss_law_book.specs.Legal.{MayFollow, IsLegal}
 use Rattle.uss_law_book.specs.Reserve.{reserved, need, ReserveCovers}
 use Rattle.uss_coding.specs.Coding.{coding_of}
 use Rattle.uss_coding.specs.Laws.{few_in_table}
-use Rattle.uss_book.specs.Book.{StandsForBook, new_book, records_of}
+use Rattle.uss_book.specs.Book.{StandsForBook, new_book}
 use Rattle.uss_book.specs.Refusal.{IsPassedOn}
 use Rattle.uss_book.proofs.Room.{legal_covers, short_name}
 use Rattle.uss_book.proofs.Lengths.{fits_after}

@@ -1,12 +1,10 @@
 -- The bytes of a journal of a book.
-use Rattle.std.proofs.Common.{ℕ, ◌+◌, ◌≤◌, List, [], ◌∷◌, ◌++◌, ◌≡◌, length, map, refl, sym, ap, subst, ◌∙◌, arith}
+use Rattle.std.proofs.Common.{ℕ, ◌+◌, ◌≤◌, List, [], ◌∷◌, ◌++◌, ◌≡◌, length, map, refl, ap, ◌∙◌, arith}
 use Rattle.std.specs.List.{sum_by}
 use Rattle.std.proofs.lemmas.List.Sums.{sum_by-cons, sum_by_push}
-use Rattle.uss_event.specs.declared.entries.Owner.{Owner}
 use Rattle.uss_event.specs.declared.entries.Entry.{Entry}
-use Rattle.uss_event.specs.declared.entries.Entry.TheVariants as Enters
 use Rattle.uss_journal.specs.Format.{used_of, limit}
-use Rattle.uss_law_book.specs.Coding.{HasCoding, coding_length, record_length, journal_length}
+use Rattle.uss_law_book.specs.Coding.{record_length, journal_length}
 use Rattle.uss_law_book.specs.Legal.{MayFollow, IsLegal}
 use Rattle.uss_law_book.proofs.EachOrderly.{legal_longer}
 use Rattle.uss_coding.specs.Coding.{coding_of}

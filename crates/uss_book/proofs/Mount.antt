@@ -1,5 +1,5 @@
 -- What a mount finds, and what a crash within it leaves.
-use Rattle.std.proofs.Common.{ℕ, List, [], ◌∷◌, ◌≡◌, ◌⊎◌, inl, inr, ⊎_elim, refl, sym, ap, subst, ◌∙◌, Option, Some, None, Result, Ok, Err}
+use Rattle.std.proofs.Common.{ℕ, List, [], ◌≡◌, ◌⊎◌, inl, inr, ⊎_elim, refl, sym, ap, subst, ◌∙◌, Result, Ok, Err}
 use Rattle.std.specs.Prelude.{IfOk, IfErr, MatchResult}
 use Rattle.uss_disk.specs.Disk.{CrashLeaves}
 use Rattle.uss_disk.specs.Crash.{crash_weaker, crash_then}
@@ -8,7 +8,7 @@ use Rattle.uss_event.specs.declared.entries.Entry.{Entry}
 use Rattle.uss_journal.specs.Format.{stands_for}
 use Rattle.uss_law_book.specs.Legal.{IsLegal}
 use Rattle.uss_book.specs.Book.{BookView, StandsForBook, IsFound, new_book, records_of}
-use Rattle.uss_book.specs.Refusal.{IsAnothers, RefusedBy, StandsForSome}
+use Rattle.uss_book.specs.Refusal.{IsAnothers, RefusedBy}
 use Rattle.uss_book.specs.declared.refusal.BookFault.{BookFault}
 use Rattle.uss_book.specs.declared.refusal.BookFault.TheVariants.{DiskFault, NotAJournal, Spent, BadEntry, OtherOwner, Changed, Memory}
 use Rattle.uss_book.specs.declared.refusal.BookRefusal.{BookRefusal}

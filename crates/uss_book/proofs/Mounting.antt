@@ -1,5 +1,5 @@
 -- A book whose journal was mounted again.
-use Rattle.std.proofs.Common.{ℕ, List, [], ◌∷◌, ◌++◌, ◌≡◌, ◌⊎◌, inl, inr, ⊎_elim, refl, sym, ap, subst, ◌∙◌, append-nil, Option, Some, None, IfSome, Result, Ok, Err}
+use Rattle.std.proofs.Common.{ℕ, List, [], ◌∷◌, ◌++◌, ◌≡◌, inl, inr, ⊎_elim, refl, sym, ap, subst, ◌∙◌, append-nil, Option, Some, None, IfSome, Result, Ok, Err}
 use Rattle.std.specs.Prelude.{IsSomeAnd}
 use Rattle.uss_disk.specs.Disk.{CrashLeaves}
 use Rattle.uss_disk.specs.Crash.{crash_weaker}
@@ -11,7 +11,7 @@ use Rattle.uss_journal.specs.declared.refusal.JournalRefusal.{JournalRefusal}
 use Rattle.uss_journal.specs.declared.refusal.JournalRefusal.TheVariants.{DiskFault, JournalFull, NotAJournal, Spent, Memory}
 use Rattle.uss_law_book.specs.Legal.{MayFollow, IsLegal}
 use Rattle.uss_law_book.proofs.EachOrderly.{legal_longer}
-use Rattle.uss_book.specs.Book.{StandsForBook, BookWithOrWithout, records_of}
+use Rattle.uss_book.specs.Book.{BookWithOrWithout, records_of}
 use Rattle.uss_book.specs.Whole.{IsWhole}
 use Rattle.uss_book.specs.Refusal.{SaysNothing, passed_on}
 use Rattle.uss_book.specs.Reread.{RereadBy, after_refusal, apart}

@@ -1,12 +1,12 @@
 -- The records of a legal book.
-use Rattle.std.proofs.Common.{ℕ, ◌+◌, ◌<◌, Bool, true, false, List, [], ◌∷◌, ◌++◌, ◌≡◌, length, map, take, refl, sym, ap, subst, ◌∙◌, Some, IsTrue}
+use Rattle.std.proofs.Common.{ℕ, ◌+◌, Bool, true, false, List, [], ◌∷◌, ◌++◌, ◌≡◌, map, take, refl, sym, ap, subst, ◌∙◌, Some, IsTrue}
 use Rattle.std.specs.Prelude.{All, slice_get}
 use Rattle.std.proofs.lemmas.List.Elements.{All-nil, All-cons, All-push}
 use Rattle.std.proofs.lemmas.List.{map-append, take_more}
 use Rattle.std.proofs.lemmas.Option.{slice_get_within, get_or_from_slice_get}
 use Rattle.uss_event.specs.declared.entries.Entry.{Entry}
 use Rattle.uss_law_book.specs.Coding.{HasCoding}
-use Rattle.uss_law_book.specs.Legal.{MayFollow, MayAllFollow, IsLegal}
+use Rattle.uss_law_book.specs.Legal.{MayAllFollow, IsLegal}
 use Rattle.uss_law_book.specs.Reserve.{ReserveCovers}
 use Rattle.uss_law_book.proofs.EachOrderly.{legal_longer}
 use Rattle.uss_coding.specs.Coding.{coding_of}

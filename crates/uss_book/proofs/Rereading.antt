@@ -1,6 +1,6 @@
 -- A book that is read again.
-use Rattle.std.proofs.Common.{ℕ, zero, suc, ◌+◌, ◌<◌, ◌≤◌, List, [], ◌∷◌, ◌++◌, ◌≡◌, ◌⊎◌, inl, inr, ⊎_elim, length, map, take, drop, refl, sym, ap, subst, ◌∙◌, arith, Option, Some, None, IfSome, Ok, Err, Result, get_or, length-append}
-use Rattle.std.specs.Prelude.{All, slice_get, IfErr, IsSomeAnd}
+use Rattle.std.proofs.Common.{ℕ, suc, ◌+◌, ◌<◌, ◌≤◌, List, [], ◌∷◌, ◌++◌, ◌≡◌, length, take, drop, refl, sym, ap, subst, ◌∙◌, arith, Some, get_or, length-append}
+use Rattle.std.specs.Prelude.{All, slice_get}
 use Rattle.std.proofs.lemmas.List.Elements.{All-head, All-tail}
 use Rattle.std.proofs.lemmas.List.{map-append, take-append-drop, take-map, get_or-map, length-map, get_or_append_left, take_more, take_all}
 use Rattle.std.proofs.lemmas.Option.{slice_get-get_or, slice_get_within, get_or_from_slice_get}
@@ -8,15 +8,14 @@ use Rattle.std.proofs.Math.Seq.{drop-cons}
 use Rattle.uss_event.specs.declared.entries.Entry.TheVariants.{TicketOpen}
 use Rattle.uss_event.specs.declared.entries.Owner.{Owner}
 use Rattle.uss_event.specs.declared.entries.Entry.{Entry}
-use Rattle.uss_journal.specs.Format.{stands_for}
 use Rattle.uss_law_book.specs.Coding.{HasCoding}
 use Rattle.uss_law_book.specs.Legal.{MayFollow, MayAllFollow, IsLegal}
 use Rattle.uss_law_book.specs.Lists.{owner_of}
 use Rattle.uss_law_book.proofs.Attempts.{owner_kept}
-use Rattle.uss_law_book.proofs.EachOrderly.{legal_longer, legal_rest, legal_beginning, legal_is_orderly}
+use Rattle.uss_law_book.proofs.EachOrderly.{legal_rest, legal_beginning}
 use Rattle.uss_coding.specs.Coding.{coding_of}
 use Rattle.uss_coding.specs.Laws.{one_coding}
-use Rattle.uss_book.specs.Book.{records_of, IsBadEntry, IsChanged, IsOtherOwner, StandsForBook, BookWithOrWithout}
+use Rattle.uss_book.specs.Book.{records_of, IsBadEntry}
 use Rattle.uss_book.specs.Reread.{BeginsWith, IsOther, AreAnothers, RereadBy}
 use Rattle.uss_book.specs.Refusal.{SaysNothing}
 use Rattle.uss_book.specs.declared.refusal.BookFault.{BookFault}

@@ -1,7 +1,7 @@
 -- A legal book fits its journal: what open jobs wrote after their openings is less than what is kept free for them.
-use Rattle.std.proofs.Common.{ℕ, ◌+◌, ◌*◌, ◌<◌, ◌≤◌, ◌==◌, Bool, true, false, cond, not, ◌||◌, find, List, [], ◌∷◌, ◌++◌, ◌≡◌, inl, inr, ⊎_elim, filter, length, get_or, refl, ap, sym, subst, ◌∙◌, arith, Option, Some, None, IfSome, is_some, length-append, append_assoc, append-nil}
-use Rattle.std.specs.Prelude.{All, nat_le}
-use Rattle.std.specs.List.{list_any, sum_by}
+use Rattle.std.proofs.Common.{ℕ, ◌+◌, ◌*◌, ◌<◌, ◌≤◌, ◌==◌, Bool, true, false, cond, not, ◌||◌, find, List, [], ◌∷◌, ◌++◌, ◌≡◌, inl, inr, ⊎_elim, filter, length, get_or, refl, ap, sym, subst, arith, Option, Some, None, IfSome, is_some, length-append, append_assoc, append-nil}
+use Rattle.std.specs.Prelude.{All}
+use Rattle.std.specs.List.{sum_by}
 use Rattle.std.specs.Option.{option_or}
 use Rattle.std.proofs.lemmas.Bool.{and_parts, leb-true}
 use Rattle.std.proofs.lemmas.List.Elements.{filter-append}
@@ -11,7 +11,6 @@ use Rattle.std.proofs.lemmas.List.Sums.{sum_by-cons, sum_by_push, sum_by-le}
 use Rattle.uss_intent.specs.Texts.{IsName, IsOvn}
 use Rattle.uss_event.specs.declared.asks.Wish.{Wish}
 use Rattle.uss_event.specs.declared.asks.Wish.TheVariants.{Put, End}
-use Rattle.uss_event.specs.declared.asks.FlightAsk.{FlightAsk}
 use Rattle.uss_intent.specs.declared.records.State.{State}
 use Rattle.uss_event.specs.declared.entries.Ending.{Ending}
 use Rattle.uss_event.specs.declared.entries.Ending.TheVariants.{Conflict, Stale, Cancelled, Ended}
@@ -19,13 +18,13 @@ use Rattle.uss_event.specs.declared.entries.Entry.{Entry}
 use Rattle.uss_event.specs.declared.entries.Entry.TheVariants.{Opened, TicketOpen, Pending, Held, Deciding, Done, TicketGone, Sent}
 use Rattle.uss_event.specs.declared.entries.Entry.TheVariants as Enters
 use Rattle.uss_law_dss.specs.Lists.{Has}
-use Rattle.uss_law_dss.proofs.Lists.{has_filter, has_filtered, has_passed}
+use Rattle.uss_law_dss.proofs.Lists.{has_filtered, has_passed}
 use Rattle.uss_law_dss.proofs.Tests.{same_number, equal_number, not_true}
 use Rattle.uss_law_book.specs.Lists.{Opening, Trial, Closing, openings, trials, decisions, tickets_opened}
-use Rattle.uss_law_book.specs.Readings.{opening_of, is_held, is_done, is_closed, is_open, trials_of, decision_of, is_ticket_open}
-use Rattle.uss_law_book.specs.Coding.{HasCoding, IsDecision, IsPending, text_length, texts_length, option_length, ending_length, record_length, journal_length}
+use Rattle.uss_law_book.specs.Readings.{is_held, is_done, is_closed, is_open, trials_of, decision_of, is_ticket_open}
+use Rattle.uss_law_book.specs.Coding.{IsDecision, text_length, texts_length, option_length, ending_length, record_length, journal_length}
 use Rattle.uss_law_book.specs.Legal.{MayFollow, MayAllFollow, IsLegal, IsDue, MayWish}
-use Rattle.uss_law_book.specs.Reserve.{journal_limit, open_jobs, need, is_reserved, settled, reserved, ReserveCovers}
+use Rattle.uss_law_book.specs.Reserve.{journal_limit, need, is_reserved, reserved, ReserveCovers}
 use Rattle.uss_law_book.proofs.Entries.{trials_append, which_opening, unclosed_before, unclosed_by}
 use Rattle.uss_law_book.proofs.Kept.{opening_has, open_parts}
 

@@ -1,5 +1,5 @@
 -- The answers of a book, each with its cause. This project's own.
-use Rattle.std.specs.Prelude.{◌≡◌, ◌⊎◌, ℕ, List, [], ◌∷◌, ◌++◌, Option, Some, None, Result, Ok, Err}
+use Rattle.std.specs.Prelude.{◌≡◌, ℕ, List, [], ◌∷◌, ◌++◌, Some, None, Result, Ok, Err}
 use Rattle.uss_cause.specs.Cause.{Rose}
 use Rattle.uss_event.specs.declared.entries.Owner.{Owner}
 use Rattle.uss_event.specs.declared.entries.Entry.{Entry}
@@ -12,7 +12,7 @@ use Rattle.uss_book.specs.declared.refusal.BookFault.{BookFault}
 use Rattle.uss_book.specs.declared.refusal.BookFault.TheVariants.{DiskFault, NotAJournal, Spent, BadEntry, OtherOwner, Changed, Memory}
 use Rattle.uss_book.specs.declared.refusal.BookRefusal.{BookRefusal}
 use Rattle.uss_book.specs.declared.kept.Kept.{Kept}
-use Rattle.uss_book.specs.Book.{BookView, records_of, IsBadEntry, IsOtherOwner, IsChanged}
+use Rattle.uss_book.specs.Book.{BookView, IsBadEntry, IsOtherOwner}
 
 -- an entry that was entered: it is the last
 pub record Entered {D : Type 0} (old : BookView D) (e : Entry) (new : BookView D) : Type 0 where

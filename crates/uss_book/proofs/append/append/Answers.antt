@@ -1,4 +1,4 @@
-use Rattle.uss_book.proofs.Entering.{refusal_fits, refusal_came}
+use Rattle.uss_book.proofs.Entering.{refusal_fits}
 use Rattle.uss_book.proofs.append.append.Goals as goal
 
 pub refused-requires : goal.refused-requires

@@ -1,4 +1,4 @@
-use Rattle.std.proofs.Common.{◌≡◌, refl, ◌∙◌, ap, subst, Option, Some, IfSome, ◌++◌, ◌∷◌, [], List}
+use Rattle.std.proofs.Common.{◌≡◌, refl, ◌∙◌, ap, subst, Option, IfSome, ◌++◌, ◌∷◌, [], List}
 use Rattle.uss_event.specs.declared.entries.Entry.{Entry}
 use Rattle.uss_law_book.specs.Coding.{HasCoding}
 use Rattle.uss_coding.specs.Coding.{coding_of}

@@ -1,4 +1,4 @@
-use Rattle.std.proofs.Common.{◌≡◌, ◌∙◌, sym, refl, Some}
+use Rattle.std.proofs.Common.{◌≡◌, ◌∙◌, sym, Some}
 use Rattle.std.specs.Prelude.{slice_get}
 use Rattle.uss_coding.specs.Coding.{coding_of}
 use Rattle.uss_book.proofs.Rereading.{take_step, all_taken}

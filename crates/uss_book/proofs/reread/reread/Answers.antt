@@ -1,4 +1,4 @@
-use Rattle.std.proofs.Common.{◌≡◌, ◌∙◌, sym, subst, List, ℕ, Option}
+use Rattle.std.proofs.Common.{◌∙◌, subst, List, ℕ, Option}
 use Rattle.std.specs.Prelude.{MatchOption}
 use Rattle.uss_event.specs.declared.entries.Entry.{Entry}
 use Rattle.uss_book.specs.Book.{records_of, IsChanged}

@@ -1,4 +1,4 @@
-use Rattle.std.proofs.Common.{◌≡◌, ◌∙◌, ℕ, Bool, true, false, not, arith, ap, sym}
+use Rattle.std.proofs.Common.{◌≡◌, ◌∙◌, ℕ, Bool, not, arith, ap, sym}
 use Rattle.uss_law_book.specs.Readings.{is_told}
 use Rattle.uss_book.proofs.Counted.{bit, few_owed, count_more}
 use Rattle.uss_book.proofs.reserve.untold.Goals as goal

@@ -1,7 +1,6 @@
-use Rattle.std.proofs.Common.{◌≡◌, ◌∙◌, ◌+◌, ◌≤◌, List, ◌++◌, ◌∷◌, [], ℕ, Option, None, length, sym, ap, subst}
+use Rattle.std.proofs.Common.{◌≡◌, ◌∙◌, List, ◌++◌, ◌∷◌, [], ℕ, length, sym, ap, subst}
 use Rattle.std.proofs.Common.{arith}
 use Rattle.uss_event.specs.declared.entries.Entry.{Entry}
-use Rattle.uss_journal.specs.Format.{used_of, limit}
 use Rattle.uss_law_book.specs.Legal.{MayFollow}
 use Rattle.uss_coding.specs.Coding.{coding_of}
 use Rattle.uss_book.specs.Book.{BookView}

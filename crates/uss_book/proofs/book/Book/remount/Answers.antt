@@ -4,7 +4,7 @@ use Rattle.uss_event.specs.declared.entries.Entry.{Entry}
 use Rattle.uss_book.specs.declared.refusal.BookFault.{BookFault}
 use Rattle.uss_book.specs.Book.{BookView, BookWithOrWithout}
 use Rattle.uss_book.specs.Refusal.{passed_on}
-use Rattle.uss_book.specs.Reread.{RereadBy, after_refusal, apart}
+use Rattle.uss_book.specs.Reread.{RereadBy, after_refusal}
 use Rattle.uss_book.specs.Whole.{IsWhole}
 use Rattle.uss_book.proofs.Mounting.{refused_whole, reread_whole, apart_whole, refused_for_memory, remount_crash}
 use Rattle.uss_book.proofs.book.Book.remount.Goals as goal
