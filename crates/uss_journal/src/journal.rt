@@ -162,6 +162,13 @@ impl<D: Disk> Journal<D> {
         self.known.used()
     }
 
+    /// How many faults its disk has counted.
+    pub fn faults(&self) -> u64
+        ensures { result ≡ D.fault_count self.now.disk }
+    {
+        self.disk.faults()
+    }
+
     /// Gives the disk back.
     pub fn release(self) -> D
         ensures { result ≡ self.disk }

@@ -3,7 +3,7 @@ ghost use Rattle.std.specs.Prelude.{◌≡◌, is_some, length};
 ghost use Rattle.std.specs.Option.{option_copied, option_and_then, option_map, option_eq};
 ghost use Rattle.uss_intent.specs.Same.{same_text};
 ghost use Rattle.uss_law_dss.specs.Service.{is_keyed};
-ghost use Rattle.uss_law_book.specs.Readings.{puts, is_closed, is_open, is_put_job, is_ticket_gone, holding, is_by, needed_for, is_ticket_needed, owed_by};
+ghost use Rattle.uss_law_book.specs.Readings.{puts, is_closed, is_open, is_put_job, is_ticket_gone, holding, is_by, needed_for, is_ticket_needed, owed_by, owed_of};
 ghost use Rattle.uss_legal.specs.Speaks.{opening_in, holding_in, decision_in, ending_in};
 ghost use Rattle.uss_legal.specs.Due.{is_open_put, may_open_ticket, is_blind, fits_wish, fits_opening, may_try, may_hold, may_end_so, may_end_opening, may_decide, may_retire, may_tell};
 
@@ -12,7 +12,7 @@ use uss_event::{Ending, Entry, Wish};
 use uss_intent::{Ovn, Ovns, State};
 
 /// Whether a job recorded something or ended.
-pub(crate) fn is_closed<T: Tells>(book: &T, job: u64) -> bool
+pub fn is_closed<T: Tells>(book: &T, job: u64) -> bool
     ensures { result ≡ is_closed job (T.entries book.now) }
 {
     book.is_held(job) || book.is_done(job)
@@ -35,7 +35,7 @@ pub(crate) fn is_put_job<T: Tells>(book: &T, job: u64) -> bool
 }
 
 /// Whether a job was opened and isn't closed.
-pub(crate) fn is_open<T: Tells>(book: &T, job: u64) -> bool
+pub fn is_open<T: Tells>(book: &T, job: u64) -> bool
     ensures { result ≡ is_open job (T.entries book.now) }
 {
     matches!(book.opening(job), Some(Entry::Opened { .. })) && !is_closed(book, job)
@@ -193,7 +193,7 @@ pub fn may_decide<T: Tells>(book: &T, job: u64, end: &Ending) -> bool
 
 /// Whether the job's ticket was heard as gone.
 #[tactic(auto, unfolding(uss_law_book::specs::Readings::is_ticket_gone))]
-pub(crate) fn is_ticket_gone<T: Tells>(book: &T, job: u64) -> bool
+pub fn is_ticket_gone<T: Tells>(book: &T, job: u64) -> bool
     ensures { result ≡ is_ticket_gone job (T.entries book.now) }
 {
     book.is_retired(job) || (book.is_done(job) && is_decided(book.decision(job)))
@@ -256,6 +256,14 @@ fn owed_count(recorded: Option<&Entry>, ending: Option<&Entry>) -> usize
         ) => owed.len(),
         _ => 0,
     }
+}
+
+/// How many notifications a closed job owes, answered or not. Takes no memory.
+#[tactic(auto, unfolding(uss_law_book::specs::Readings::owed_of))]
+pub fn owed_by<T: Tells>(book: &T, job: u64) -> usize
+    ensures { result ≡ length (owed_of job (T.entries book.now)) }
+{
+    owed_count(book.recorded(job), book.ending(job))
 }
 
 /// Whether the notification at this place of those that the job owes may be answered.

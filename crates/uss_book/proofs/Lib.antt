@@ -1,0 +1,9 @@
+pub mod Counted
+pub mod Entering
+pub mod Lengths
+pub mod Mount
+pub mod Records
+pub mod Room
+pub mod FirstEntry
+pub mod Rereading
+pub mod Mounting

@@ -1,0 +1,7 @@
+use Rattle.std.proofs.Common.{◌≡◌, take}
+use Rattle.uss_law_book.specs.Legal.{IsLegal}
+use Rattle.uss_book.specs.Book.{records_of}
+use Rattle.uss_book.proofs.judge.entries_of.Given as goal
+
+abbrev pub invariant-loop-n : goal.invariant-loop-n
+invariant-loop-n g l = IsLegal l.kept.entries.items × (records_of l.kept.entries.items ≡ take l.n l.journal.records)

@@ -1,0 +1,7 @@
+pub mod Append
+pub mod Book
+pub mod Judge
+pub mod Refusal
+pub mod Reread
+pub mod Shares
+pub mod Whole

@@ -1,0 +1,75 @@
+-- What comes of reading a book again. This project's own.
+use Rattle.std.specs.Prelude.{◌≡◌, ◌⊎◌, ℕ, List, ◌++◌, Option, Some, None}
+use Rattle.uss_cause.specs.Cause.{Rose}
+use Rattle.uss_event.specs.declared.entries.Owner.{Owner}
+use Rattle.uss_event.specs.declared.entries.Entry.{Entry}
+use Rattle.uss_law_book.specs.Lists.{owner_of}
+use Rattle.uss_book.specs.declared.refusal.BookFault.{BookFault}
+use Rattle.uss_book.specs.declared.refusal.BookFault.TheVariants.{DiskFault, NotAJournal, Spent, BadEntry, OtherOwner, Changed, Memory}
+use Rattle.uss_book.specs.Book.{BookView, IsBadEntry, IsOtherOwner, IsChanged}
+
+-- the list begins so
+pub record BeginsWith {X : Type 0} (list front : List X) : Type 0 where
+  pub more : List X
+  pub is : list ≡ front ++ more
+
+-- the records are those of a legal book, and of another owner than the known entries
+pub record IsOther (known : List Entry) (kept : Owner) (records : List (List ℕ)) : Type 0 where
+  pub owner : Owner
+  pub known_is : owner_of known ≡ Some owner
+  pub is : IsOtherOwner owner kept records
+
+-- the entries are of another owner's book than the known ones
+pub record AreAnothers (entries known : List Entry) : Type 0 where
+  pub owner : Owner
+  pub kept : Owner
+  pub known_is : owner_of known ≡ Some owner
+  pub kept_is : owner_of entries ≡ Some kept
+  pub differ : kept ≡ owner → ⊥
+
+-- why records aren't those of a book that goes on from the known entries
+abbrev pub RereadBy : (known : List Entry) (records : List (List ℕ)) (fault : BookFault) → Type 0
+RereadBy known records (BadEntry n) = IsBadEntry records n
+RereadBy known records (OtherOwner kept) = IsOther known kept records
+RereadBy known records (Changed n) = IsChanged known n records
+RereadBy known records Memory = Unit {0}
+RereadBy known records DiskFault = ⊥
+RereadBy known records (NotAJournal place) = ⊥
+RereadBy known records (Spent count) = ⊥
+
+-- by which count a book is spent after its journal refused to be mounted again
+abbrev pub after_refusal : BookFault → Option ℕ → ℕ → Option ℕ
+after_refusal DiskFault spent faults = Some faults
+after_refusal Memory spent faults = spent
+after_refusal (NotAJournal place) spent faults = spent
+after_refusal (Spent count) spent faults = spent
+after_refusal (BadEntry n) spent faults = spent
+after_refusal (OtherOwner kept) spent faults = spent
+after_refusal (Changed n) spent faults = spent
+
+-- by which count a book is spent whose journal has other records: the one that it had, or that of its disk
+abbrev pub apart : Option ℕ → ℕ → Option ℕ
+apart None faults = Some faults
+apart (Some count) faults = Some count
+
+-- a book that was mounted again: it goes on from the entries that were known
+pub record Remounted {D : Type 0} (old new : BookView D) : Type 0 where
+  pub begins : BeginsWith new.entries old.entries
+  pub reopened : new.spent ≡ None
+  pub settled : new.tried ≡ None
+
+-- a book that wasn't mounted again has its entries, and the one that was tried
+pub record StaysSo {D : Type 0} (old new : BookView D) : Type 0 where
+  pub entries : new.entries ≡ old.entries
+  pub tried : new.tried ≡ old.tried
+
+-- Each refusal of a remount, with its cause. After want of memory, and where other records were read, a book that wasn't spent may
+-- be so.
+abbrev pub RemountRefused : {D : Type 0} (fault_count : D → ℕ) (old : BookView D) (fault : BookFault) (new : BookView D) → Type 0
+RemountRefused fault_count old DiskFault new = StaysSo old new × Rose (fault_count old.disk) (fault_count new.disk) × (new.spent ≡ Some (fault_count new.disk))
+RemountRefused fault_count old (NotAJournal place) new = StaysSo old new × (new.spent ≡ old.spent)
+RemountRefused fault_count old Memory new = StaysSo old new × ((new.spent ≡ old.spent) ⊎ (new.spent ≡ apart old.spent (fault_count new.disk)))
+RemountRefused fault_count old (BadEntry n) new = StaysSo old new × (new.spent ≡ apart old.spent (fault_count new.disk))
+RemountRefused fault_count old (OtherOwner kept) new = StaysSo old new × (new.spent ≡ apart old.spent (fault_count new.disk))
+RemountRefused fault_count old (Changed n) new = StaysSo old new × (new.spent ≡ apart old.spent (fault_count new.disk))
+RemountRefused fault_count old (Spent count) new = ⊥

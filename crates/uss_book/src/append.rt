@@ -1,0 +1,76 @@
+// The coding of an entry is appended to the journal.
+ghost use Rattle.std.specs.Prelude.{◌≡◌, ◌↔◌, ◌≤◌, ◌+◌, ◌<◌, List, ℕ, Some, None, length, vec_len, vec_capacity, IfOk, OnOk};
+ghost use Rattle.uss_disk.specs.Disk.{CrashLeaves};
+ghost use Rattle.uss_journal.specs.Format.{limit, used_of};
+ghost use Rattle.uss_journal.specs.Journal.{StandsFor, WithOrWithout};
+ghost use Rattle.uss_law_book.specs.Coding.{HasCoding};
+ghost use Rattle.uss_coding.specs.Coding.{coding_of};
+ghost use Rattle.uss_book.specs.Append.{Came, OnDone, IsRefusalThatFits, outcome_of};
+
+use crate::kept::Kept;
+use std::alloc::{AllocError, Global};
+use uss_coding::write;
+use uss_disk::Disk;
+use uss_event::Entry;
+use uss_journal::{Journal, JournalRefusal};
+
+/// What comes of an append of a record that fits.
+pub(crate) enum Outcome {
+    Done,
+    /// The disk answered a fault.
+    Faulted,
+    /// Memory is wanting.
+    Unroomy,
+}
+
+/// Appends a record that fits to a journal that isn't spent.
+pub(crate) fn append<D: Disk>(journal: &mut Journal<D>, bytes: &[u8]) -> Outcome
+    requires unspent { journal.old.spent ≡ None }
+    requires fits { used_of journal.old.records + 5 + length bytes.now ≤ limit }
+    ensures answer { Came D.fault_count journal.old bytes.now result journal.new }
+    ensures count { D.fault_count journal.old.disk ≤ D.fault_count journal.new.disk }
+    ensures honest { D.is_honest journal.new.disk ↔ D.is_honest journal.old.disk }
+    ensures crash { D.is_honest journal.old.disk → CrashLeaves D.moment D.left_since
+        (WithOrWithout journal.old.records (Some bytes.now)) journal.old.disk journal.new.disk }
+    ensures durable { D.is_honest journal.old.disk → OnDone result ((image : List ℕ) → D.may_leave journal.new.disk image → StandsFor journal.new.records image) }
+{
+    match journal.append(bytes) {
+        Ok(()) => Outcome::Done,
+        Err(refusal) => refused(refusal),
+    }
+}
+
+/// What comes of it where the journal answers this.
+fn refused(refusal: JournalRefusal) -> Outcome
+    requires { IsRefusalThatFits refusal }
+    ensures { result ≡ outcome_of refusal }
+{
+    match refusal {
+        JournalRefusal::DiskFault => Outcome::Faulted,
+        JournalRefusal::Memory => Outcome::Unroomy,
+        JournalRefusal::JournalFull | JournalRefusal::NotAJournal(_) | JournalRefusal::Spent(_) => {
+            unreachable!()
+        }
+    }
+}
+
+/// Keeps the entry that was tried.
+pub(crate) fn keep_tried(tried: &mut Option<Entry>, e: Entry)
+    ensures { tried.new ≡ Some e }
+{
+    *tried = Some(e);
+}
+
+/// Drops an entry.
+pub(crate) fn discard(_: Entry) {}
+
+/// The coding of an entry that is to be entered, with room for the entry.
+pub(crate) fn prepare(alloc: Global, kept: &mut Kept, e: &Entry) -> Result<Vec<u8>, AllocError>
+    requires { HasCoding e.now }
+    ensures entries { kept.new.entries.items ≡ kept.old.entries.items }
+    ensures room { OnOk result (vec_len kept.new.entries < vec_capacity kept.new.entries) }
+    ensures coding { IfOk result (λ v. v.items ≡ coding_of e.now) }
+{
+    kept.make_room()?;
+    write(alloc, e)
+}

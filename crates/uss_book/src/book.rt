@@ -1,0 +1,313 @@
+ghost use Rattle.std.specs.Prelude.{◌≡◌, ◌↔◌, ◌≢◌, ◌≤◌, ◌⊎◌, ◌∷◌, ◌++◌, [], List, ℕ, length, Some, None, IfOk, IfErr, OnOk, MatchResult, slice_get};
+ghost use Rattle.std.specs.Option.{option_copied, option_map};
+ghost use Rattle.uss_event.specs.declared.entries.Entry.{Entry};
+ghost use Rattle.uss_disk.specs.Disk.{bytes_of, CrashLeaves};
+ghost use Rattle.uss_journal.specs.Format.{stands_for};
+ghost use Rattle.uss_law_book.specs.Lists.{owner_of};
+ghost use Rattle.uss_law_book.specs.Readings.{open_job_of, last_of, trials_of, owns};
+ghost use Rattle.uss_law_book.specs.Coding.{journal_length};
+ghost use Rattle.uss_law_book.specs.Legal.{MayFollow, IsLegal};
+ghost use Rattle.uss_book.specs.Book.{StandsForBook, BookWithOrWithout, IsFound, new_book, records_of};
+ghost use Rattle.uss_book.specs.Refusal.{Entered, EnterRefused, MountRefused, RefusedBy, SaysNothing, IsAnothers, disk_after};
+ghost use Rattle.uss_book.specs.Reread.{Remounted, RemountRefused};
+
+use crate::append::{Outcome, append, discard, keep_tried, prepare};
+use crate::kept::Kept;
+use crate::load::{load, passed_on};
+use crate::owner::{into_owner, is_of};
+use crate::readers::{job_of, request_of};
+use crate::reread::{after_refusal, apart, forget, reread};
+use crate::start::start;
+use crate::{BookFault, BookRefusal};
+use std::alloc::Global;
+use std::marker::Model;
+use uss_disk::Disk;
+use uss_event::{Entry, Owner};
+use uss_journal::Journal;
+use uss_legal::Tells;
+
+/// A supplier's book on a disk: a list of entries, legal at every moment, each durable once it was entered. It owns its disk.
+#[derive(Drop)]
+pub struct Book<D: Disk> {
+    alloc: Global,
+    journal: Journal<D>,
+    kept: Kept,
+    // Where the book is spent: by which count of faults. Its journal may then be spent too, or have other records than the book.
+    spent: Option<u64>,
+    // The entry that was tried when the book was spent, if one was.
+    tried: Option<Entry>,
+    // The bytes of a journal of the entries.
+    used: u64,
+}
+
+impl<D: Disk> Model for Book<D> {
+    ghost use Rattle.uss_book.specs.Book.{BookView};
+    ghost use Rattle.uss_book.specs.Whole.{IsWhole};
+
+    ghost Value = { BookView D };
+
+    ghost view = { λ b. record { disk = b.journal.disk; entries = b.kept.entries.items; spent = b.spent; tried = b.tried } };
+
+    ghost invariant = { λ b. IsWhole D.may_leave D.is_honest b.journal b.kept.entries.items b.spent b.tried b.used };
+}
+
+/// The book of entries that were read.
+fn made<D: Disk>(alloc: Global, journal: Journal<D>, kept: Kept) -> Book<D>
+    requires legal { IsLegal kept.entries.items }
+    requires unspent { journal.spent ≡ None }
+    requires untried { journal.tried ≡ None }
+    requires records { records_of kept.entries.items ≡ journal.records }
+    requires left { D.is_honest journal.disk → (image : List ℕ) → D.may_leave journal.disk image → StandsForBook kept.entries.items image }
+    ensures disk { result.disk ≡ journal.disk }
+    ensures entries { result.entries ≡ kept.entries.items }
+    ensures spent { result.spent ≡ None }
+    ensures tried { result.tried ≡ None }
+{
+    let used = journal.used();
+    Book {
+        alloc,
+        journal,
+        kept,
+        spent: None,
+        tried: None,
+        used,
+    }
+}
+
+/// The book of entries that were read, where it is the owner's.
+fn owned<D: Disk>(
+    alloc: Global,
+    journal: Journal<D>,
+    kept: Kept,
+    owner: &Owner,
+) -> Result<Book<D>, BookRefusal<D>>
+    requires legal { IsLegal kept.entries.items }
+    requires some { kept.entries.items ≢ [] }
+    requires unspent { journal.spent ≡ None }
+    requires untried { journal.tried ≡ None }
+    requires records { records_of kept.entries.items ≡ journal.records }
+    requires left { D.is_honest journal.disk → (image : List ℕ) → D.may_leave journal.disk image → StandsForBook kept.entries.items image }
+    ensures entries { IfOk result (λ b. b.entries ≡ kept.entries.items) }
+    ensures owner { IfOk result (λ b. owner_of b.entries ≡ Some owner.now) }
+    ensures unspent { IfOk result (λ b. (b.spent ≡ None) × (b.tried ≡ None)) }
+    ensures another { IfErr result (λ r. IsAnothers kept.entries.items owner.now r.refusal) }
+    ensures disk { disk_after result ≡ journal.disk }
+{
+    if is_of(kept.as_slice(), owner) {
+        Ok(made(alloc, journal, kept))
+    } else {
+        Err(BookRefusal {
+            refusal: BookFault::OtherOwner(into_owner(kept)),
+            back: journal.release(),
+        })
+    }
+}
+
+/// A new book in an empty journal. The owner's base URL has at most 256 bytes.
+fn begun<D: Disk>(
+    alloc: Global,
+    journal: Journal<D>,
+    kept: Kept,
+    owner: Owner,
+) -> Result<Book<D>, BookRefusal<D>>
+    requires short { length owner.base ≤ 256 }
+    requires empty { kept.entries.items ≡ [] }
+    requires unwritten { journal.records ≡ [] }
+    requires unspent { journal.spent ≡ None }
+    ensures refused { IfErr result (λ r. MountRefused (D.fault_count journal.disk) (D.fault_count r.back) r.refusal) }
+    ensures free { IfErr result (λ r. SaysNothing r.refusal) }
+    ensures entries { IfOk result (λ b. b.entries ≡ new_book owner) }
+    ensures legal { IfOk result (λ b. IsLegal b.entries) }
+    ensures unspent { IfOk result (λ b. (b.spent ≡ None) × (b.tried ≡ None)) }
+    ensures count { D.fault_count journal.disk ≤ D.fault_count (disk_after result) }
+    ensures honest { D.is_honest (disk_after result) ↔ D.is_honest journal.disk }
+    ensures durable { D.is_honest journal.disk → IfOk result (λ b. (image : List ℕ) → D.may_leave b.disk image → StandsForBook b.entries image) }
+    ensures crash { D.is_honest journal.disk → CrashLeaves D.moment D.left_since
+        (λ image. D.may_leave journal.disk image ⊎ (stands_for image ≡ Ok []) ⊎ StandsForBook (new_book owner) image) journal.disk (disk_after result) }
+{
+    let mut journal = journal;
+    let mut kept = kept;
+    match start(alloc, &mut journal, &mut kept, owner) {
+        Ok(()) => Ok(made(alloc, journal, kept)),
+        Err(refusal) => Err(BookRefusal {
+            refusal,
+            back: journal.release(),
+        }),
+    }
+}
+
+impl<D: Disk> Book<D> {
+    /// Mounts the book that the disk's file holds, and makes a new one of an empty journal. The owner's base URL has at most 256
+    /// bytes. A refusal hands the disk back.
+    pub fn mount(alloc: Global, disk: D, owner: Owner) -> Result<Book<D>, BookRefusal<D>>
+        requires { length owner.base ≤ 256 }
+        ensures refused { IfErr result (λ r. MountRefused (D.fault_count disk) (D.fault_count r.back) r.refusal) }
+        ensures unspent { IfOk result (λ b. (b.spent ≡ None) × (b.tried ≡ None)) }
+        ensures legal { IfOk result (λ b. IsLegal b.entries) }
+        ensures owner { IfOk result (λ b. owner_of b.entries ≡ Some owner) }
+        ensures count { D.fault_count disk ≤ D.fault_count (disk_after result) }
+        ensures honest { D.is_honest (disk_after result) ↔ D.is_honest disk }
+
+        // On an honest disk, by the bytes.
+        ensures found { D.is_honest disk → MatchResult result
+            (λ b. IsFound owner (bytes_of (D.reads disk)) b.entries)
+            (λ r. RefusedBy owner (bytes_of (D.reads disk)) r.refusal) }
+        ensures durable { D.is_honest disk → IfOk result (λ b. (image : List ℕ) → D.may_leave b.disk image → StandsForBook b.entries image) }
+
+        // A crash at any moment of it leaves what it could have left before, or what stands for the same, or for the new book.
+        ensures crash { D.is_honest disk → CrashLeaves D.moment D.left_since
+            (λ image. D.may_leave disk image ⊎ (stands_for image ≡ stands_for (bytes_of (D.reads disk))) ⊎ StandsForBook (new_book owner) image) disk (disk_after result) }
+    {
+        let (journal, kept) = match load(alloc, disk) {
+            Ok(found) => found,
+            Err(refused) => return Err(refused),
+        };
+        if kept.as_slice().is_empty() {
+            begun(alloc, journal, kept, owner)
+        } else {
+            owned(alloc, journal, kept, &owner)
+        }
+    }
+
+    /// Enters an entry that may follow: at Ok it is the last, and durable. A book that answers 141 is spent until it is mounted
+    /// again; the entry is then in the file in whole, or it isn't there. The journal is never full.
+    pub fn enter(&mut self, e: Entry) -> Result<(), BookFault>
+        requires { MayFollow self.old.entries e }
+        ensures answer { MatchResult result (λ _. Entered self.old e self.new) (λ r. EnterRefused D.fault_count self.old e r self.new) }
+        ensures count { D.fault_count self.old.disk ≤ D.fault_count self.new.disk }
+        ensures honest { D.is_honest self.new.disk ↔ D.is_honest self.old.disk }
+
+        // A crash at any moment of it leaves the book before it, or that with the new entry in whole; after Ok only the latter.
+        ensures crash { D.is_honest self.old.disk → self.old.spent ≡ None → CrashLeaves D.moment D.left_since
+            (BookWithOrWithout self.old.entries (Some e)) self.old.disk self.new.disk }
+        ensures durable { D.is_honest self.old.disk → OnOk result ((image : List ℕ) → D.may_leave self.new.disk image → StandsForBook self.new.entries image) }
+    {
+        if let Some(count) = self.spent {
+            discard(e);
+            return Err(BookFault::Spent(count));
+        }
+        let bytes = match prepare(self.alloc, &mut self.kept, &e) {
+            Ok(bytes) => bytes,
+            Err(_) => {
+                discard(e);
+                return Err(BookFault::Memory);
+            }
+        };
+        match append(&mut self.journal, bytes.as_slice()) {
+            Outcome::Done => {
+                self.used = self.journal.used();
+                self.kept.enter(e);
+                Ok(())
+            }
+            Outcome::Faulted => {
+                self.spent = Some(self.journal.faults());
+                keep_tried(&mut self.tried, e);
+                Err(BookFault::DiskFault)
+            }
+            Outcome::Unroomy => {
+                discard(e);
+                Err(BookFault::Memory)
+            }
+        }
+    }
+
+    /// Mounts again what its own disk holds: its entries, or these with the one that was tried. A book that other records were read of
+    /// than its own is spent; after any other refusal it is as it was, but for its disk.
+    pub fn remount(&mut self) -> Result<(), BookFault>
+        ensures answer { MatchResult result (λ _. Remounted self.old self.new) (λ r. RemountRefused D.fault_count self.old r self.new) }
+        ensures count { D.fault_count self.old.disk ≤ D.fault_count self.new.disk }
+        ensures honest { D.is_honest self.new.disk ↔ D.is_honest self.old.disk }
+
+        // On an honest disk the entries are those before it, or these with the one that was tried, and it is refused by a fault or for
+        // want of memory alone.
+        ensures found { D.is_honest self.old.disk → MatchResult result (λ _. StandsForBook self.new.entries (bytes_of (D.reads self.old.disk))) SaysNothing }
+        ensures kept { D.is_honest self.old.disk → BookWithOrWithout self.old.entries self.old.tried (bytes_of (D.reads self.old.disk)) }
+        ensures durable { D.is_honest self.old.disk → OnOk result ((image : List ℕ) → D.may_leave self.new.disk image → StandsForBook self.new.entries image) }
+        ensures crash { D.is_honest self.old.disk → CrashLeaves D.moment D.left_since
+            (BookWithOrWithout self.old.entries self.old.tried) self.old.disk self.new.disk }
+    {
+        if let Err(refusal) = self.journal.remount() {
+            let fault = passed_on(refusal);
+            self.spent = after_refusal(&fault, self.spent, self.journal.faults());
+            return Err(fault);
+        }
+        match reread(self.alloc, &self.journal, self.kept.as_slice()) {
+            Ok(kept) => {
+                self.used = self.journal.used();
+                self.kept = kept;
+                self.spent = None;
+                forget(&mut self.tried);
+                Ok(())
+            }
+            Err(fault) => {
+                self.spent = apart(self.spent, self.journal.faults());
+                Err(fault)
+            }
+        }
+    }
+
+    /// The entry with this number, from 0, the oldest first. Takes no memory.
+    pub fn entry(&self, n: u64) -> Option<&Entry>
+        ensures entry { option_copied result ≡ slice_get self.now.entries n }
+        ensures legal { IsLegal self.now.entries }
+    {
+        self.kept.as_slice().get(n as usize)
+    }
+
+    /// How many entries there are. Takes no memory.
+    pub fn len(&self) -> u64
+        ensures { result ≡ length self.now.entries }
+    {
+        self.kept.as_slice().len() as u64
+    }
+
+    /// The bytes of a journal of the entries: the file's, up to and with its last gate. Takes no memory.
+    pub fn used(&self) -> u64
+        ensures { result ≡ journal_length self.now.entries }
+    {
+        self.used
+    }
+
+    /// The flight's open job. Takes no memory.
+    pub fn live_job(&self, flight: u64) -> Option<u64>
+        ensures { result ≡ option_map (λ o. o.job) (open_job_of flight self.now.entries) }
+    {
+        job_of(self.kept.tells().open_job(flight))
+    }
+
+    /// The number of the flight's last request, which is its greatest, and its job. Takes no memory.
+    pub fn last(&self, flight: u64) -> Option<(u64, u64)>
+        ensures { result ≡ option_map (λ o. (o.ask.number, o.job)) (last_of flight self.now.entries) }
+    {
+        request_of(self.kept.tells().last(flight))
+    }
+
+    /// How many attempts the job made. Takes no memory.
+    pub fn attempts(&self, job: u64) -> usize
+        ensures { result ≡ length (trials_of job self.now.entries) }
+    {
+        self.kept.tells().attempts(job)
+    }
+
+    /// Whether the tag is that of an attempt of the job. Takes no memory.
+    pub fn owns(&self, job: u64, tag: u64) -> bool
+        ensures { result ≡ owns job tag self.now.entries }
+    {
+        self.kept.tells().owns(job, tag)
+    }
+
+    /// Gives the disk back.
+    pub fn release(self) -> D
+        ensures { result ≡ self.disk }
+    {
+        let Book {
+            alloc: _,
+            journal,
+            kept: _,
+            spent: _,
+            tried: _,
+            used: _,
+        } = self;
+        journal.release()
+    }
+}

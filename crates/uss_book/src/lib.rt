@@ -1,0 +1,21 @@
+//! A supplier's book: typed entries over a journal, legal at every moment.
+#![tactic(auto)]
+
+mod append;
+mod book;
+mod judge;
+mod kept;
+mod load;
+mod owner;
+mod readers;
+mod refusal;
+mod reread;
+mod reserve;
+mod start;
+#[cfg(test)]
+mod tests;
+mod viewed;
+
+pub use book::Book;
+pub use refusal::{BookFault, BookRefusal};
+pub use viewed::view;

@@ -1,0 +1,54 @@
+// Whose book it is.
+ghost use Rattle.std.specs.Prelude.{◌≡◌, ◌↔◌, ◌≢◌, ◌≤◌, [], IsTrue, Some, length};
+ghost use Rattle.uss_event.specs.declared.entries.Entry.TheVariants as Enters;
+ghost use Rattle.uss_law_book.specs.Coding.{HasCoding};
+ghost use Rattle.uss_law_book.specs.Legal.{IsLegal};
+ghost use Rattle.uss_law_book.specs.Lists.{owner_of};
+
+use crate::kept::Kept;
+use uss_event::{Entry, Owner};
+
+/// Whether both are one owner: each of their parts is the same.
+pub(crate) fn is_same(a: &Owner, b: &Owner) -> bool
+    ensures { IsTrue result ↔ (a.now ≡ b.now) }
+{
+    a.number == b.number
+        && a.name == b.name
+        && a.base == b.base
+        && a.table.priorities() == b.table.priorities()
+}
+
+/// Whether the entries are of this owner's book.
+pub(crate) fn is_of(entries: &[Entry], owner: &Owner) -> bool
+    ensures { IsTrue result ↔ (owner_of entries.now ≡ Some owner.now) }
+{
+    match entries {
+        [Entry::Owner(kept), ..] => is_same(kept, owner),
+        _ => false,
+    }
+}
+
+/// The owner of a book, taken out of its entries.
+pub(crate) fn into_owner(kept: Kept) -> Owner
+    requires legal { IsLegal kept.entries.items }
+    requires some { kept.entries.items ≢ [] }
+    ensures { owner_of kept.entries.items ≡ Some result }
+{
+    let mut entries = kept.entries;
+    match entries.remove(0) {
+        Entry::Owner(owner) => owner,
+        _ => unreachable!(),
+    }
+}
+
+/// The first entry of a book of this owner, whose base URL has at most 256 bytes.
+pub(crate) fn first_entry(owner: Owner) -> Entry
+    requires { length owner.base ≤ 256 }
+    ensures is { result ≡ Enters.Owner owner }
+    ensures coding { HasCoding result }
+{
+    let _name = owner.name.as_bytes();
+    let _base = owner.base.as_bytes();
+    let _table = owner.table.priorities();
+    Entry::Owner(owner)
+}

@@ -1,0 +1,34 @@
+ghost use Rattle.std.specs.Prelude.{◌≡◌, ◌↔◌, ◌≤◌, ◌⊎◌, IfOk, IfErr, MatchResult};
+ghost use Rattle.uss_disk.specs.Disk.{bytes_of, CrashLeaves};
+ghost use Rattle.uss_journal.specs.Format.{stands_for};
+ghost use Rattle.uss_law_book.specs.Legal.{IsLegal};
+ghost use Rattle.uss_book.specs.Book.{StandsForBook};
+ghost use Rattle.uss_book.specs.Refusal.{MountRefused, ReadBy, disk_viewed};
+
+use crate::BookRefusal;
+use crate::load::load;
+use std::alloc::Global;
+use uss_disk::Disk;
+use uss_event::Entries;
+use uss_intent::Sequence;
+
+/// The entries of the book that the disk's file holds, whoever owns it, and the disk. An empty journal has none. The refusals are 141,
+/// 143, 151 and want of memory, as those of a mount, and hand the disk back.
+pub fn view<D: Disk>(alloc: Global, disk: D) -> Result<(Entries, D), BookRefusal<D>>
+    ensures refused { IfErr result (λ r. MountRefused (D.fault_count disk) (D.fault_count r.back) r.refusal) }
+    ensures legal { IfOk result (λ x. IsLegal x.0) }
+    ensures count { D.fault_count disk ≤ D.fault_count (disk_viewed result) }
+    ensures honest { D.is_honest (disk_viewed result) ↔ D.is_honest disk }
+
+    // On an honest disk, by the bytes.
+    ensures found { D.is_honest disk → MatchResult result
+        (λ x. StandsForBook x.0 (bytes_of (D.reads disk)))
+        (λ r. ReadBy (bytes_of (D.reads disk)) r.refusal) }
+    ensures crash { D.is_honest disk → CrashLeaves D.moment D.left_since
+        (λ image. D.may_leave disk image ⊎ (stands_for image ≡ stands_for (bytes_of (D.reads disk)))) disk (disk_viewed result) }
+{
+    match load(alloc, disk) {
+        Ok((journal, kept)) => Ok((Sequence::from_vec(kept.entries), journal.release())),
+        Err(refused) => Err(refused),
+    }
+}
