@@ -27,6 +27,11 @@ first_room o h = omega (arith, short_name o.name h.name, h.short_base, few_in_ta
 pub first_follows : (o : Owner) → HasCoding (Enters.Owner o) → MayFollow [] (Enters.Owner o)
 first_follows o h = record { first = refl; coding = h; due = tt; room_before = legal_covers [] tt; room_after = first_room o h }
 
+-- it may follow where there are none
+pub follows_none : (o : Owner) (e : Entry) (es : List Entry) → e ≡ Enters.Owner o → HasCoding e → es ≡ [] → MayFollow es e
+follows_none o e es is h none =
+    subst (λ (l : List Entry). MayFollow l e) (sym none) (subst (MayFollow []) (sym is) (first_follows o (subst HasCoding is h)))
+
 pub first_legal : (o : Owner) (e : Entry) (es : List Entry) → e ≡ Enters.Owner o → HasCoding e → es ≡ e ∷ [] → IsLegal es
 first_legal o e es is h whole =
     let coded = subst HasCoding is h in

@@ -1,4 +1,3 @@
-pub mod Counted
 pub mod Entering
 pub mod Lengths
 pub mod Mount

@@ -1,19 +1,17 @@
 -- The records of a legal book.
 use Rattle.std.proofs.Common.{ℕ, ◌+◌, Bool, true, false, List, [], ◌∷◌, ◌++◌, ◌≡◌, map, take, refl, sym, ap, subst, ◌∙◌, Some, IsTrue}
 use Rattle.std.specs.Prelude.{All, slice_get}
-use Rattle.std.proofs.lemmas.List.Elements.{All-nil, All-cons, All-push}
+use Rattle.std.proofs.lemmas.List.Elements.{All-nil, All-cons}
 use Rattle.std.proofs.lemmas.List.{map-append, take_more}
 use Rattle.std.proofs.lemmas.Option.{slice_get_within, get_or_from_slice_get}
 use Rattle.uss_event.specs.declared.entries.Entry.{Entry}
 use Rattle.uss_law_book.specs.Coding.{HasCoding}
-use Rattle.uss_law_book.specs.Legal.{MayAllFollow, IsLegal}
-use Rattle.uss_law_book.specs.Reserve.{ReserveCovers}
+use Rattle.uss_law_book.specs.Legal.{MayFollow, MayAllFollow, IsLegal}
 use Rattle.uss_law_book.proofs.EachOrderly.{legal_longer}
 use Rattle.uss_coding.specs.Coding.{coding_of}
 use Rattle.uss_coding.specs.Laws.{one_coding}
-use Rattle.uss_book.specs.Book.{records_of, IsNext}
-use Rattle.uss_book.specs.Judge.{IsJudged, IsFollowed}
-use Rattle.uss_book.proofs.Room.{legal_covers}
+use Rattle.uss_book.specs.Book.{records_of}
+use Rattle.uss_book.specs.Judge.{IsFollowed}
 
 coded_from : (before es : List Entry) → MayAllFollow before es → All HasCoding es
 coded_from before [] h = All-nil HasCoding
@@ -22,32 +20,8 @@ coded_from before (e ∷ es) h = All-cons HasCoding e es h.0.coding (coded_from 
 pub legal_coded : (book : List Entry) → IsLegal book → All HasCoding book
 legal_coded book h = coded_from [] book h
 
-coded_push : (es : List Entry) (e : Entry) → All HasCoding es → HasCoding e → All HasCoding (es ++ e ∷ [])
-coded_push es e h k = All-push HasCoding es e h k
-
-pub coded_after : (es es' : List Entry) (e : Entry) → IsLegal es → HasCoding e → es' ≡ es ++ e ∷ [] → All HasCoding es'
-coded_after es es' e h k is = subst (All HasCoding) (sym is) (coded_push es e (legal_coded es h) k)
-
-pub judged : (es es' : List Entry) (bytes : List ℕ) (e : Entry) (covers : Bool) → IsLegal es → HasCoding e × (bytes ≡ coding_of e) → IsNext es e → es' ≡ es ++ e ∷ []
-    → (IsTrue covers → ReserveCovers es') × (ReserveCovers es' → IsTrue covers) → IsJudged es bytes es' covers
-judged es es' bytes e true legal coded next is c =
-    record {
-      entry = e;
-      follows = record {
-        first = next.first;
-        coding = coded.0;
-        due = next.due;
-        room_before = legal_covers es legal;
-        room_after = subst ReserveCovers is (c.0 refl);
-      };
-      coding = coded.1;
-      last = is;
-    }
-judged es es' bytes e false legal coded next is c = λ d follows same.
-    let one : d ≡ e = one_coding d e follows.coding coded.0 (sym same ∙ coded.1) in
-    let room : ReserveCovers es' = subst ReserveCovers (ap (λ (x : Entry). es ++ x ∷ []) one ∙ sym is) follows.room_after in
-    let so = c.1 room in
-    cc
+pub judged : (es es' : List Entry) (bytes : List ℕ) (e : Entry) → MayFollow es e → bytes ≡ coding_of e → es' ≡ es ++ e ∷ [] → IsFollowed es bytes es'
+judged es es' bytes e follows coded is = record { entry = e; follows = follows; coding = coded; last = is }
 
 -- a record that was judged is the next
 pub next_record : (es es' : List Entry) (records : List (List ℕ)) (n : ℕ) (bytes : List ℕ) → records_of es ≡ take n records → slice_get records n ≡ Some bytes → IsFollowed es bytes es' → records_of es' ≡ take (n + 1) records

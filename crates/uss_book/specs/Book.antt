@@ -5,7 +5,7 @@ use Rattle.uss_event.specs.declared.entries.Entry.{Entry}
 use Rattle.uss_event.specs.declared.entries.Entry.TheVariants as Enters
 use Rattle.uss_journal.specs.Format.{stands_for}
 use Rattle.uss_law_book.specs.Lists.{owner_of}
-use Rattle.uss_law_book.specs.Legal.{MayFollow, IsLegal, IsDue, is_owner, is_new}
+use Rattle.uss_law_book.specs.Legal.{MayFollow, IsLegal}
 use Rattle.uss_coding.specs.Coding.{coding_of}
 
 -- a book: its disk; its entries, the oldest first; where it is spent, its disk's count of faults when it last answered a fault, or
@@ -35,11 +35,6 @@ new_book owner = Enters.Owner owner ∷ []
 -- what a mount finds in a file: the entries that it stands for, or a new book where it stands for none
 abbrev pub IsFound : Owner → List ℕ → List Entry → Type 0
 IsFound owner file entries = StandsForBook entries file ⊎ ((stands_for file ≡ Ok []) × (entries ≡ new_book owner))
-
--- the entry is due after those before it: the first says whose book it is and no other does, and it is allowed by them
-pub record IsNext (before : List Entry) (e : Entry) : Type 0 where
-  pub first : is_owner e ≡ is_new before
-  pub due : IsDue before e
 
 -- the record with number n is the first that isn't the coding of an entry that may follow those before it
 pub record IsBadEntry (records : List (List ℕ)) (n : ℕ) : Type 0 where

@@ -3,5 +3,4 @@ pub mod Book
 pub mod Judge
 pub mod Refusal
 pub mod Reread
-pub mod Shares
 pub mod Whole

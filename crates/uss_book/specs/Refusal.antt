@@ -11,7 +11,7 @@ use Rattle.uss_journal.specs.declared.refusal.JournalRefusal.TheVariants as Jour
 use Rattle.uss_book.specs.declared.refusal.BookFault.{BookFault}
 use Rattle.uss_book.specs.declared.refusal.BookFault.TheVariants.{DiskFault, NotAJournal, Spent, BadEntry, OtherOwner, Changed, Memory}
 use Rattle.uss_book.specs.declared.refusal.BookRefusal.{BookRefusal}
-use Rattle.uss_book.specs.declared.kept.Kept.{Kept}
+use Rattle.uss_entries.specs.Known.{Known}
 use Rattle.uss_book.specs.Book.{BookView, IsBadEntry, IsOtherOwner}
 
 -- an entry that was entered: it is the last
@@ -108,7 +108,7 @@ ReadBy file (Changed n) = Unit {0}
 ReadBy file Memory = Unit {0}
 
 -- the disk after the entries of a file were read
-abbrev pub disk_read : {D : Type 0} → Result (JournalView D × Kept) (BookRefusal D) → D
+abbrev pub disk_read : {D : Type 0} → Result (JournalView D × Known) (BookRefusal D) → D
 disk_read (Ok found) = found.0.disk
 disk_read (Err refused) = refused.back
 

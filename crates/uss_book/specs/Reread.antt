@@ -37,6 +37,21 @@ RereadBy known records DiskFault = ⊥
 RereadBy known records (NotAJournal place) = ⊥
 RereadBy known records (Spent count) = ⊥
 
+-- records that were read say why
+pub record RereadFor (known : List Entry) (fault : BookFault) : Type 0 where
+  pub records : List (List ℕ)
+  pub by : RereadBy known records fault
+
+-- where 151, 152 and 154 come: by records that aren't those of a book that goes on from the known entries
+abbrev pub IsByRecords : (known : List Entry) (fault : BookFault) → Type 0
+IsByRecords known (BadEntry n) = RereadFor known (BadEntry n)
+IsByRecords known (OtherOwner kept) = RereadFor known (OtherOwner kept)
+IsByRecords known (Changed n) = RereadFor known (Changed n)
+IsByRecords known Memory = Unit {0}
+IsByRecords known DiskFault = Unit {0}
+IsByRecords known (NotAJournal place) = Unit {0}
+IsByRecords known (Spent count) = Unit {0}
+
 -- by which count a book is spent after its journal refused to be mounted again
 abbrev pub after_refusal : BookFault → Option ℕ → ℕ → Option ℕ
 after_refusal DiskFault spent faults = Some faults

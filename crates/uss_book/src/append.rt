@@ -1,16 +1,17 @@
 // The coding of an entry is appended to the journal.
-ghost use Rattle.std.specs.Prelude.{◌≡◌, ◌↔◌, ◌≤◌, ◌+◌, ◌<◌, List, ℕ, Some, None, length, vec_len, vec_capacity, IfOk, OnOk};
+ghost use Rattle.std.specs.Prelude.{◌≡◌, ◌↔◌, ◌≤◌, ◌+◌, List, ℕ, Some, None, length, IfOk, OnOk};
 ghost use Rattle.uss_disk.specs.Disk.{CrashLeaves};
 ghost use Rattle.uss_journal.specs.Format.{limit, used_of};
 ghost use Rattle.uss_journal.specs.Journal.{StandsFor, WithOrWithout};
 ghost use Rattle.uss_law_book.specs.Coding.{HasCoding};
 ghost use Rattle.uss_coding.specs.Coding.{coding_of};
+ghost use Rattle.uss_entries.specs.Known.{IsReadyFor};
 ghost use Rattle.uss_book.specs.Append.{Came, OnDone, IsRefusalThatFits, outcome_of};
 
-use crate::kept::Kept;
 use std::alloc::{AllocError, Global};
 use uss_coding::write;
 use uss_disk::Disk;
+use uss_entries::Entries;
 use uss_event::Entry;
 use uss_journal::{Journal, JournalRefusal};
 
@@ -65,12 +66,12 @@ pub(crate) fn keep_tried(tried: &mut Option<Entry>, e: Entry)
 pub(crate) fn discard(_: Entry) {}
 
 /// The coding of an entry that is to be entered, with room for the entry.
-pub(crate) fn prepare(alloc: Global, kept: &mut Kept, e: &Entry) -> Result<Vec<u8>, AllocError>
+pub(crate) fn prepare(alloc: Global, kept: &mut Entries, e: &Entry) -> Result<Vec<u8>, AllocError>
     requires { HasCoding e.now }
-    ensures entries { kept.new.entries.items ≡ kept.old.entries.items }
-    ensures room { OnOk result (vec_len kept.new.entries < vec_capacity kept.new.entries) }
+    ensures entries { kept.new.entries ≡ kept.old.entries }
+    ensures room { OnOk result (IsReadyFor kept.new e.now) }
     ensures coding { IfOk result (λ v. v.items ≡ coding_of e.now) }
 {
-    kept.make_room()?;
+    kept.make_room(e)?;
     write(alloc, e)
 }

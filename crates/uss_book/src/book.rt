@@ -1,18 +1,18 @@
-ghost use Rattle.std.specs.Prelude.{◌≡◌, ◌↔◌, ◌≢◌, ◌≤◌, ◌⊎◌, ◌∷◌, ◌++◌, [], List, ℕ, length, Some, None, IfOk, IfErr, OnOk, MatchResult, slice_get};
+ghost use Rattle.std.specs.Prelude.{◌≡◌, ◌↔◌, ◌≢◌, ◌≤◌, ◌⊎◌, ◌∷◌, ◌++◌, [], List, ℕ, length, Some, None, IsTrue, IfOk, IfErr, OnOk, MatchResult, slice_get};
 ghost use Rattle.std.specs.Option.{option_copied, option_map};
 ghost use Rattle.uss_event.specs.declared.entries.Entry.{Entry};
 ghost use Rattle.uss_disk.specs.Disk.{bytes_of, CrashLeaves};
 ghost use Rattle.uss_journal.specs.Format.{stands_for};
 ghost use Rattle.uss_law_book.specs.Lists.{owner_of};
 ghost use Rattle.uss_law_book.specs.Readings.{open_job_of, last_of, trials_of, owns};
-ghost use Rattle.uss_law_book.specs.Coding.{journal_length};
+ghost use Rattle.uss_law_book.specs.Coding.{HasCoding, journal_length};
 ghost use Rattle.uss_law_book.specs.Legal.{MayFollow, IsLegal};
+ghost use Rattle.uss_law_book.specs.Reserve.{need};
 ghost use Rattle.uss_book.specs.Book.{StandsForBook, BookWithOrWithout, IsFound, new_book, records_of};
 ghost use Rattle.uss_book.specs.Refusal.{Entered, EnterRefused, MountRefused, RefusedBy, SaysNothing, IsAnothers, disk_after};
-ghost use Rattle.uss_book.specs.Reread.{Remounted, RemountRefused};
+ghost use Rattle.uss_book.specs.Reread.{Remounted, RemountRefused, IsByRecords};
 
 use crate::append::{Outcome, append, discard, keep_tried, prepare};
-use crate::kept::Kept;
 use crate::load::{load, passed_on};
 use crate::owner::{into_owner, is_of};
 use crate::readers::{job_of, request_of};
@@ -22,6 +22,7 @@ use crate::{BookFault, BookRefusal};
 use std::alloc::Global;
 use std::marker::Model;
 use uss_disk::Disk;
+use uss_entries::Entries;
 use uss_event::{Entry, Owner};
 use uss_journal::Journal;
 use uss_legal::Tells;
@@ -31,7 +32,7 @@ use uss_legal::Tells;
 pub struct Book<D: Disk> {
     alloc: Global,
     journal: Journal<D>,
-    kept: Kept,
+    kept: Entries,
     // Where the book is spent: by which count of faults. Its journal may then be spent too, or have other records than the book.
     spent: Option<u64>,
     // The entry that was tried when the book was spent, if one was.
@@ -46,20 +47,20 @@ impl<D: Disk> Model for Book<D> {
 
     ghost Value = { BookView D };
 
-    ghost view = { λ b. record { disk = b.journal.disk; entries = b.kept.entries.items; spent = b.spent; tried = b.tried } };
+    ghost view = { λ b. record { disk = b.journal.disk; entries = b.kept.entries; spent = b.spent; tried = b.tried } };
 
-    ghost invariant = { λ b. IsWhole D.may_leave D.is_honest b.journal b.kept.entries.items b.spent b.tried b.used };
+    ghost invariant = { λ b. IsWhole D.may_leave D.is_honest b.journal b.kept.entries b.spent b.tried b.used };
 }
 
 /// The book of entries that were read.
-fn made<D: Disk>(alloc: Global, journal: Journal<D>, kept: Kept) -> Book<D>
-    requires legal { IsLegal kept.entries.items }
+fn made<D: Disk>(alloc: Global, journal: Journal<D>, kept: Entries) -> Book<D>
+    requires legal { IsLegal kept.entries }
     requires unspent { journal.spent ≡ None }
     requires untried { journal.tried ≡ None }
-    requires records { records_of kept.entries.items ≡ journal.records }
-    requires left { D.is_honest journal.disk → (image : List ℕ) → D.may_leave journal.disk image → StandsForBook kept.entries.items image }
+    requires records { records_of kept.entries ≡ journal.records }
+    requires left { D.is_honest journal.disk → (image : List ℕ) → D.may_leave journal.disk image → StandsForBook kept.entries image }
     ensures disk { result.disk ≡ journal.disk }
-    ensures entries { result.entries ≡ kept.entries.items }
+    ensures entries { result.entries ≡ kept.entries }
     ensures spent { result.spent ≡ None }
     ensures tried { result.tried ≡ None }
 {
@@ -78,19 +79,19 @@ fn made<D: Disk>(alloc: Global, journal: Journal<D>, kept: Kept) -> Book<D>
 fn owned<D: Disk>(
     alloc: Global,
     journal: Journal<D>,
-    kept: Kept,
+    kept: Entries,
     owner: &Owner,
 ) -> Result<Book<D>, BookRefusal<D>>
-    requires legal { IsLegal kept.entries.items }
-    requires some { kept.entries.items ≢ [] }
+    requires legal { IsLegal kept.entries }
+    requires some { kept.entries ≢ [] }
     requires unspent { journal.spent ≡ None }
     requires untried { journal.tried ≡ None }
-    requires records { records_of kept.entries.items ≡ journal.records }
-    requires left { D.is_honest journal.disk → (image : List ℕ) → D.may_leave journal.disk image → StandsForBook kept.entries.items image }
-    ensures entries { IfOk result (λ b. b.entries ≡ kept.entries.items) }
+    requires records { records_of kept.entries ≡ journal.records }
+    requires left { D.is_honest journal.disk → (image : List ℕ) → D.may_leave journal.disk image → StandsForBook kept.entries image }
+    ensures entries { IfOk result (λ b. b.entries ≡ kept.entries) }
     ensures owner { IfOk result (λ b. owner_of b.entries ≡ Some owner.now) }
     ensures unspent { IfOk result (λ b. (b.spent ≡ None) × (b.tried ≡ None)) }
-    ensures another { IfErr result (λ r. IsAnothers kept.entries.items owner.now r.refusal) }
+    ensures another { IfErr result (λ r. IsAnothers kept.entries owner.now r.refusal) }
     ensures disk { disk_after result ≡ journal.disk }
 {
     if is_of(kept.as_slice(), owner) {
@@ -107,11 +108,11 @@ fn owned<D: Disk>(
 fn begun<D: Disk>(
     alloc: Global,
     journal: Journal<D>,
-    kept: Kept,
+    kept: Entries,
     owner: Owner,
 ) -> Result<Book<D>, BookRefusal<D>>
     requires short { length owner.base ≤ 256 }
-    requires empty { kept.entries.items ≡ [] }
+    requires empty { kept.entries ≡ [] }
     requires unwritten { journal.records ≡ [] }
     requires unspent { journal.spent ≡ None }
     ensures refused { IfErr result (λ r. MountRefused (D.fault_count journal.disk) (D.fault_count r.back) r.refusal) }
@@ -215,6 +216,8 @@ impl<D: Disk> Book<D> {
     /// than its own is spent; after any other refusal it is as it was, but for its disk.
     pub fn remount(&mut self) -> Result<(), BookFault>
         ensures answer { MatchResult result (λ _. Remounted self.old self.new) (λ r. RemountRefused D.fault_count self.old r self.new) }
+        // The records that were read are the cause of 151, 152 and 154; on an honest disk none of these comes.
+        ensures records { IfErr result (IsByRecords self.old.entries) }
         ensures count { D.fault_count self.old.disk ≤ D.fault_count self.new.disk }
         ensures honest { D.is_honest self.new.disk ↔ D.is_honest self.old.disk }
 
@@ -251,14 +254,14 @@ impl<D: Disk> Book<D> {
         ensures entry { option_copied result ≡ slice_get self.now.entries n }
         ensures legal { IsLegal self.now.entries }
     {
-        self.kept.as_slice().get(n as usize)
+        self.kept.entry(n as usize)
     }
 
     /// How many entries there are. Takes no memory.
     pub fn len(&self) -> u64
         ensures { result ≡ length self.now.entries }
     {
-        self.kept.as_slice().len() as u64
+        self.kept.len() as u64
     }
 
     /// The bytes of a journal of the entries: the file's, up to and with its last gate. Takes no memory.
@@ -268,32 +271,48 @@ impl<D: Disk> Book<D> {
         self.used
     }
 
+    /// The bytes to be kept free in the journal: 8 MiB for each open job, 64 for each notification that is owed and wasn't answered, 64
+    /// for each closed job's ticket that is there. Takes no memory.
+    pub fn need(&self) -> u64
+        ensures { result ≡ need self.now.entries }
+    {
+        self.kept.need()
+    }
+
+    /// Whether an entry that has a coding may follow. Takes no memory.
+    pub fn may_follow(&self, e: &Entry) -> bool
+        requires { HasCoding e.now }
+        ensures { IsTrue result ↔ MayFollow self.now.entries e.now }
+    {
+        self.kept.may_follow(e)
+    }
+
     /// The flight's open job. Takes no memory.
     pub fn live_job(&self, flight: u64) -> Option<u64>
         ensures { result ≡ option_map (λ o. o.job) (open_job_of flight self.now.entries) }
     {
-        job_of(self.kept.tells().open_job(flight))
+        job_of(self.kept.open_job(flight))
     }
 
     /// The number of the flight's last request, which is its greatest, and its job. Takes no memory.
     pub fn last(&self, flight: u64) -> Option<(u64, u64)>
         ensures { result ≡ option_map (λ o. (o.ask.number, o.job)) (last_of flight self.now.entries) }
     {
-        request_of(self.kept.tells().last(flight))
+        request_of(self.kept.last(flight))
     }
 
     /// How many attempts the job made. Takes no memory.
     pub fn attempts(&self, job: u64) -> usize
         ensures { result ≡ length (trials_of job self.now.entries) }
     {
-        self.kept.tells().attempts(job)
+        self.kept.attempts(job)
     }
 
     /// Whether the tag is that of an attempt of the job. Takes no memory.
     pub fn owns(&self, job: u64, tag: u64) -> bool
         ensures { result ≡ owns job tag self.now.entries }
     {
-        self.kept.tells().owns(job, tag)
+        self.kept.owns(job, tag)
     }
 
     /// Gives the disk back.

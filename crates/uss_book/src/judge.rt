@@ -7,35 +7,35 @@ ghost use Rattle.uss_book.specs.Judge.{IsJudged};
 ghost use Rattle.uss_book.specs.Refusal.{Misread};
 
 use crate::BookFault;
-use crate::kept::Kept;
 use std::alloc::{AllocError, Global};
 use uss_coding::read;
 use uss_disk::Disk;
+use uss_entries::Entries;
 use uss_journal::Journal;
 
 /// Whether a record's bytes are the coding of an entry that may follow those that are kept: the entry is then kept too.
-fn judge(alloc: Global, kept: &mut Kept, bytes: &[u8]) -> Result<bool, AllocError>
-    requires { IsLegal kept.old.entries.items }
-    ensures { IfOk result (IsJudged kept.old.entries.items bytes.now kept.new.entries.items) }
+fn judge(alloc: Global, kept: &mut Entries, bytes: &[u8]) -> Result<bool, AllocError>
+    requires { IsLegal kept.old.entries }
+    ensures { IfOk result (IsJudged kept.old.entries bytes.now kept.new.entries) }
 {
     let Some(e) = read(alloc, bytes)? else {
         return Ok(false);
     };
-    if !kept.is_due(&e) {
+    if !kept.may_follow(&e) {
         return Ok(false);
     }
-    kept.make_room()?;
+    kept.make_room(&e)?;
     kept.enter(e);
-    Ok(kept.covers())
+    Ok(true)
 }
 
 /// The entries whose codings the journal's records are, or the number of the first that is bad.
-pub(crate) fn entries_of<D: Disk>(alloc: Global, journal: &Journal<D>) -> Result<Kept, BookFault>
-    ensures legal { IfOk result (λ k. IsLegal k.entries.items) }
-    ensures found { IfOk result (λ k. records_of k.entries.items ≡ journal.now.records) }
+pub(crate) fn entries_of<D: Disk>(alloc: Global, journal: &Journal<D>) -> Result<Entries, BookFault>
+    ensures legal { IfOk result (λ k. IsLegal k.entries) }
+    ensures found { IfOk result (λ k. records_of k.entries ≡ journal.now.records) }
     ensures refused { IfErr result (Misread journal.now.records) }
 {
-    let mut kept = Kept::new(alloc);
+    let mut kept = Entries::new(alloc);
     for n in 0..journal.count() {
         let record = journal.item(n).unwrap();
         if !judge(alloc, &mut kept, record)? {

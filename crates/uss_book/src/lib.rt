@@ -4,13 +4,11 @@
 mod append;
 mod book;
 mod judge;
-mod kept;
 mod load;
 mod owner;
 mod readers;
 mod refusal;
 mod reread;
-mod reserve;
 mod start;
 #[cfg(test)]
 mod tests;

@@ -8,10 +8,10 @@ ghost use Rattle.uss_book.specs.Book.{records_of, StandsForBook};
 ghost use Rattle.uss_book.specs.Refusal.{IsPassedOn, passed_on, MountRefused, ReadBy, disk_read};
 
 use crate::judge::entries_of;
-use crate::kept::Kept;
 use crate::{BookFault, BookRefusal};
 use std::alloc::Global;
 use uss_disk::Disk;
+use uss_entries::Entries;
 use uss_journal::{Journal, JournalRefusal};
 
 /// What a book answers where its journal answers this.
@@ -28,19 +28,19 @@ pub(crate) fn passed_on(refusal: JournalRefusal) -> BookFault
 }
 
 /// Mounts the journal that the disk's file holds, and reads the entries that its records are the codings of.
-pub(crate) fn load<D: Disk>(alloc: Global, disk: D) -> Result<(Journal<D>, Kept), BookRefusal<D>>
+pub(crate) fn load<D: Disk>(alloc: Global, disk: D) -> Result<(Journal<D>, Entries), BookRefusal<D>>
     ensures refused { IfErr result (λ r. MountRefused (D.fault_count disk) (D.fault_count r.back) r.refusal) }
     ensures unspent { IfOk result (λ x. (x.0.spent ≡ None) × (x.0.tried ≡ None)) }
-    ensures legal { IfOk result (λ x. IsLegal x.1.entries.items) }
-    ensures records { IfOk result (λ x. records_of x.1.entries.items ≡ x.0.records) }
+    ensures legal { IfOk result (λ x. IsLegal x.1.entries) }
+    ensures records { IfOk result (λ x. records_of x.1.entries ≡ x.0.records) }
     ensures count { D.fault_count disk ≤ D.fault_count (disk_read result) }
     ensures honest { D.is_honest (disk_read result) ↔ D.is_honest disk }
 
     // On an honest disk, by the bytes.
     ensures found { D.is_honest disk → MatchResult result
-        (λ x. StandsForBook x.1.entries.items (bytes_of (D.reads disk)))
+        (λ x. StandsForBook x.1.entries (bytes_of (D.reads disk)))
         (λ r. ReadBy (bytes_of (D.reads disk)) r.refusal) }
-    ensures durable { D.is_honest disk → IfOk result (λ x. (image : List ℕ) → D.may_leave x.0.disk image → StandsForBook x.1.entries.items image) }
+    ensures durable { D.is_honest disk → IfOk result (λ x. (image : List ℕ) → D.may_leave x.0.disk image → StandsForBook x.1.entries image) }
     ensures crash { D.is_honest disk → CrashLeaves D.moment D.left_since
         (λ image. D.may_leave disk image ⊎ (stands_for image ≡ stands_for (bytes_of (D.reads disk)))) disk (disk_read result) }
 {

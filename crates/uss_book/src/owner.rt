@@ -5,7 +5,7 @@ ghost use Rattle.uss_law_book.specs.Coding.{HasCoding};
 ghost use Rattle.uss_law_book.specs.Legal.{IsLegal};
 ghost use Rattle.uss_law_book.specs.Lists.{owner_of};
 
-use crate::kept::Kept;
+use uss_entries::Entries;
 use uss_event::{Entry, Owner};
 
 /// Whether both are one owner: each of their parts is the same.
@@ -29,12 +29,12 @@ pub(crate) fn is_of(entries: &[Entry], owner: &Owner) -> bool
 }
 
 /// The owner of a book, taken out of its entries.
-pub(crate) fn into_owner(kept: Kept) -> Owner
-    requires legal { IsLegal kept.entries.items }
-    requires some { kept.entries.items ≢ [] }
-    ensures { owner_of kept.entries.items ≡ Some result }
+pub(crate) fn into_owner(kept: Entries) -> Owner
+    requires legal { IsLegal kept.entries }
+    requires some { kept.entries ≢ [] }
+    ensures { owner_of kept.entries ≡ Some result }
 {
-    let mut entries = kept.entries;
+    let mut entries = kept.into_vec();
     match entries.remove(0) {
         Entry::Owner(owner) => owner,
         _ => unreachable!(),

@@ -11,11 +11,11 @@ ghost use Rattle.uss_book.specs.Reread.{AreAnothers, BeginsWith, RereadBy, after
 
 use crate::BookFault;
 use crate::judge::entries_of;
-use crate::kept::Kept;
 use crate::owner::{into_owner, is_same};
 use std::alloc::{AllocError, Global};
 use uss_coding::write;
 use uss_disk::Disk;
+use uss_entries::Entries;
 use uss_event::{Entry, Owner};
 use uss_journal::Journal;
 
@@ -73,11 +73,11 @@ pub(crate) fn reread<D: Disk>(
     alloc: Global,
     journal: &Journal<D>,
     known: &[Entry],
-) -> Result<Kept, BookFault>
+) -> Result<Entries, BookFault>
     requires { IsLegal known.now }
-    ensures legal { IfOk result (λ k. IsLegal k.entries.items) }
-    ensures found { IfOk result (λ k. records_of k.entries.items ≡ journal.now.records) }
-    ensures begins { IfOk result (λ k. BeginsWith k.entries.items known.now) }
+    ensures legal { IfOk result (λ k. IsLegal k.entries) }
+    ensures found { IfOk result (λ k. records_of k.entries ≡ journal.now.records) }
+    ensures begins { IfOk result (λ k. BeginsWith k.entries known.now) }
     ensures refused { IfErr result (RereadBy known.now journal.now.records) }
 {
     let kept = entries_of(alloc, journal)?;

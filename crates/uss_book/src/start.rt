@@ -7,12 +7,12 @@ ghost use Rattle.uss_book.specs.Book.{StandsForBook, new_book, records_of};
 ghost use Rattle.uss_book.specs.Refusal.{MountRefused, SaysNothing};
 
 use crate::BookFault;
-use crate::kept::Kept;
 use crate::load::passed_on;
 use crate::owner::first_entry;
 use std::alloc::Global;
 use uss_coding::write;
 use uss_disk::Disk;
+use uss_entries::Entries;
 use uss_event::Owner;
 use uss_journal::Journal;
 
@@ -20,27 +20,27 @@ use uss_journal::Journal;
 pub(crate) fn start<D: Disk>(
     alloc: Global,
     journal: &mut Journal<D>,
-    kept: &mut Kept,
+    kept: &mut Entries,
     owner: Owner,
 ) -> Result<(), BookFault>
     requires short { length owner.base ≤ 256 }
-    requires empty { kept.old.entries.items ≡ [] }
+    requires empty { kept.old.entries ≡ [] }
     requires unwritten { journal.old.records ≡ [] }
     requires reopened { journal.old.spent ≡ None }
     ensures refused { IfErr result (MountRefused (D.fault_count journal.old.disk) (D.fault_count journal.new.disk)) }
     ensures free { IfErr result SaysNothing }
-    ensures entries { OnOk result (kept.new.entries.items ≡ new_book owner) }
-    ensures legal { OnOk result (IsLegal kept.new.entries.items) }
-    ensures records { OnOk result (records_of kept.new.entries.items ≡ journal.new.records) }
+    ensures entries { OnOk result (kept.new.entries ≡ new_book owner) }
+    ensures legal { OnOk result (IsLegal kept.new.entries) }
+    ensures records { OnOk result (records_of kept.new.entries ≡ journal.new.records) }
     ensures unspent { OnOk result ((journal.new.spent ≡ None) × (journal.new.tried ≡ None)) }
     ensures count { D.fault_count journal.old.disk ≤ D.fault_count journal.new.disk }
     ensures honest { D.is_honest journal.new.disk ↔ D.is_honest journal.old.disk }
-    ensures durable { D.is_honest journal.old.disk → OnOk result ((image : List ℕ) → D.may_leave journal.new.disk image → StandsForBook kept.new.entries.items image) }
+    ensures durable { D.is_honest journal.old.disk → OnOk result ((image : List ℕ) → D.may_leave journal.new.disk image → StandsForBook kept.new.entries image) }
     ensures crash { D.is_honest journal.old.disk → CrashLeaves D.moment D.left_since
         (λ image. D.may_leave journal.old.disk image ⊎ (stands_for image ≡ Ok []) ⊎ StandsForBook (new_book owner) image) journal.old.disk journal.new.disk }
 {
     let e = first_entry(owner);
-    kept.make_room()?;
+    kept.make_room(&e)?;
     let bytes = write(alloc, &e)?;
     match journal.append(bytes.as_slice()) {
         Ok(()) => {

@@ -1,5 +1,6 @@
 // The book on a disk in memory: mounted by records, and after a stop at each call.
 ghost use Rattle.std.specs.Prelude.{◌≤◌, length, IfOk};
+ghost use Rattle.uss_law_book.specs.Coding.{HasCoding};
 
 use crate::{Book, BookFault, view};
 use std::alloc::{AllocError, Global};
@@ -44,7 +45,9 @@ fn file_of(alloc: Global, records: &[&[u8]]) -> Result<Vec<u8>, AllocError> {
     Ok(file)
 }
 
-fn entry_of(rt: &impl Abort, alloc: Global, bytes: &[u8]) -> Result<Entry, AllocError> {
+fn entry_of(rt: &impl Abort, alloc: Global, bytes: &[u8]) -> Result<Entry, AllocError>
+    ensures { IfOk result HasCoding }
+{
     match read(alloc, bytes)? {
         Some(entry) => Ok(entry),
         None => rt.abort(),
@@ -172,6 +175,40 @@ fn a_new_book_is_begun_whatever_call_fails_or_stops(rt: HostRuntime) -> Result<(
                 Ok(book) => assert_eq!(rt; book.len(), 1, "at {number} and {stop}"),
                 Err(_) => rt.abort(),
             }
+        }
+    }
+    Ok(())
+}
+
+#[test]
+fn a_stop_at_any_call_leaves_the_book_before_it_or_with_the_one_entry(
+    rt: HostRuntime,
+) -> Result<(), Fail> {
+    let alloc = rt.alloc();
+    let disk = MemoryDisk::with_bytes(alloc, b"", Vec::new(alloc))?;
+    let mut book = match Book::mount(alloc, disk, owner_of(&rt, alloc)?) {
+        Ok(book) => book,
+        Err(_) => rt.abort(),
+    };
+    for coding in &[PLAN, TICKET, TRIAL] {
+        let e = entry_of(&rt, alloc, coding)?;
+        if !book.may_follow(&e) {
+            rt.abort();
+        }
+        assert!(rt; book.enter(e).is_ok());
+        assert_eq!(rt; book.need(), 8_388_608);
+    }
+    assert!(rt; !book.may_follow(&entry_of(&rt, alloc, AGAIN)?));
+    let disk = book.release();
+    assert_eq!(rt; disk.calls().len(), 20);
+    // A new book is made by eight calls, and each entry is entered by four.
+    for stop in 8..=disk.calls().len() {
+        let file = left(alloc, &disk.calls()[..stop])?;
+        let known = (stop as u64 / 4).saturating_sub(1);
+        match mounted(&rt, alloc, &file)? {
+            Ok(found) if stop % 4 == 0 => assert_eq!(rt; found, known, "at {stop}"),
+            Ok(found) => assert!(rt; found == known || found == known + 1, "at {stop}"),
+            Err(_) => rt.abort(),
         }
     }
     Ok(())

@@ -28,7 +28,7 @@ pub fn view<D: Disk>(alloc: Global, disk: D) -> Result<(Entries, D), BookRefusal
         (λ image. D.may_leave disk image ⊎ (stands_for image ≡ stands_for (bytes_of (D.reads disk)))) disk (disk_viewed result) }
 {
     match load(alloc, disk) {
-        Ok((journal, kept)) => Ok((Sequence::from_vec(kept.entries), journal.release())),
+        Ok((journal, kept)) => Ok((Sequence::from_vec(kept.into_vec()), journal.release())),
         Err(refused) => Err(refused),
     }
 }

@@ -80,6 +80,13 @@ impl Entries {
         self.entries.as_slice()
     }
 
+    /// The entries themselves, without the index.
+    pub fn into_vec(self) -> Vec<Entry>
+        ensures { result.items ≡ self.entries }
+    {
+        self.entries
+    }
+
     /// The entry with this number, from 0.
     pub fn entry(&self, n: usize) -> Option<&Entry>
         ensures { option_copied result ≡ slice_get self.now.entries n }

@@ -9,12 +9,12 @@ use Rattle.uss_book.proofs.reread.reread.Goals as goal
 
 pub into_owner-requires-clause-some : goal.into_owner-requires-clause-some
 into_owner-requires-clause-some g c =
-    not_none c.in_ok-kept.kept.entries.items c.args.known.now (subst (λ (l : List Entry). AreAnothers l c.args.known.now) c.as_slice.ensures (c.are_anothers.ensures.0 c.if-are_anothers.true))
+    not_none c.in_ok-kept.kept.entries c.args.known.now (subst (λ (l : List Entry). AreAnothers l c.args.known.now) c.as_slice.ensures (c.are_anothers.ensures.0 c.if-are_anothers.true))
 
 pub returns-then-are_anothers-clause-refused : goal.returns-then-are_anothers-clause-refused
 returns-then-are_anothers-clause-refused g c =
     let differ = subst (λ (l : List Entry). AreAnothers l c.args.known.now) c.as_slice.ensures (c.are_anothers.ensures.0 c.if-are_anothers.true) in
-    other_owner c.args.known.now c.in_ok-kept.kept.entries.items c.args.journal.now.records c.into_owner.result differ c.in_ok-kept.ensures.legal c.in_ok-kept.ensures.found c.into_owner.ensures
+    other_owner c.args.known.now c.in_ok-kept.kept.entries c.args.journal.now.records c.into_owner.result differ c.in_ok-kept.ensures.legal c.in_ok-kept.ensures.found c.into_owner.ensures
 
 pub first_change-requires : goal.first_change-requires
 first_change-requires g c = legal_coded c.args.known.now c.requires
@@ -22,7 +22,7 @@ first_change-requires g c = legal_coded c.args.known.now c.requires
 pub returns-in-None-clause-begins : goal.returns-in-None-clause-begins
 returns-in-None-clause-begins g c =
     let known = c.args.known.now in
-    let kept = c.in_ok-kept.kept.entries.items in
+    let kept = c.in_ok-kept.kept.entries in
     let records = c.args.journal.now.records in
     let b = subst (λ (o : Option ℕ). MatchOption o (BeginsWith records (records_of known)) (λ n. IsChanged known n records)) c.in-None.is c.in_ok-n.ensures in
     begins_with kept known b.more (legal_coded kept c.in_ok-kept.ensures.legal) (legal_coded known c.requires) (c.in_ok-kept.ensures.found ∙ b.is)

@@ -1,7 +1,7 @@
 use Rattle.std.proofs.Common.{◌∙◌, ap, ◌++◌, ◌∷◌, [], List}
 use Rattle.uss_event.specs.declared.entries.Entry.{Entry}
 use Rattle.uss_coding.specs.Coding.{coding_of}
-use Rattle.uss_book.proofs.FirstEntry.{first_legal, first_fits, append_passed, start_crash}
+use Rattle.uss_book.proofs.FirstEntry.{follows_none, first_legal, first_fits, append_passed, start_crash}
 use Rattle.uss_book.proofs.start.start.Goals as goal
 
 pub passed_on-requires : goal.passed_on-requires
@@ -10,10 +10,14 @@ passed_on-requires g c =
     let fits = first_fits c.args.owner c.first_entry-e.result c.args.journal.now.records c.as_slice.result.now c.first_entry-e.ensures.is c.first_entry-e.ensures.coding c.requires.unwritten coded in
     append_passed g.D.Disk.fault_count c.args.journal.now c.as_slice.result.now c.in-Err.refusal c.append.new.self c.in-Err.ensures.answer c.requires.reopened fits
 
+pub enter-requires-clause-follows : goal.enter-requires-clause-follows
+enter-requires-clause-follows g c =
+    follows_none c.args.owner c.first_entry-e.result c.make_room.new.self.entries c.first_entry-e.ensures.is c.first_entry-e.ensures.coding (c.in_ok-make_room.ensures.entries ∙ c.requires.empty)
+
 pub returns-in-Ok-clause-legal : goal.returns-in-Ok-clause-legal
 returns-in-Ok-clause-legal g c =
     let before = c.in_ok-make_room.ensures.entries ∙ c.requires.empty in
-    first_legal c.args.owner c.first_entry-e.result c.enter.new.self.entries.items c.first_entry-e.ensures.is c.first_entry-e.ensures.coding
+    first_legal c.args.owner c.first_entry-e.result c.enter.new.self.entries c.first_entry-e.ensures.is c.first_entry-e.ensures.coding
     (c.enter.ensures ∙ ap (λ (l : List Entry). l ++ c.first_entry-e.result ∷ []) before)
 
 pub returns-in-Err-clause-crash : goal.returns-in-Err-clause-crash

@@ -12,10 +12,10 @@ pub append-requires-clause-fits : goal.append-requires-clause-fits
 append-requires-clause-fits g c =
     let old = c.self.inside in
     let unspent = none_from_not old.spent c.in_default.not-Some in
-    let is_entries : old.kept.entries.items ≡ c.args.self.now.entries = ap (λ (v : BookView g.row.D.Denot). v.entries) c.self.view_is in
+    let is_entries : old.kept.entries ≡ c.args.self.now.entries = ap (λ (v : BookView g.row.D.Denot). v.entries) c.self.view_is in
     let m = subst (λ (es : List Entry). MayFollow es c.args.e) (sym is_entries) c.requires in
     let coded : c.as_slice.result.now ≡ coding_of c.args.e = c.as_slice.ensures.value ∙ c.in-Ok.ensures.coding in
-    let fits = fits_after old.kept.entries.items c.args.e old.journal.records c.self.invariant.legal m (c.self.invariant.records unspent) in
+    let fits = fits_after old.kept.entries c.args.e old.journal.records c.self.invariant.legal m (c.self.invariant.records unspent) in
     omega (arith, fits, ap (length {A = ℕ}) coded)
 
 pub invariant_of-self-in-Done : goal.invariant_of-self-in-Done
@@ -23,10 +23,10 @@ invariant_of-self-in-Done g c =
     let D = g.D.Disk in
     let old = c.self.inside in
     let unspent = none_from_not old.spent c.in_default.not-Some in
-    let is_entries : old.kept.entries.items ≡ c.args.self.now.entries = ap (λ (v : BookView g.row.D.Denot). v.entries) c.self.view_is in
+    let is_entries : old.kept.entries ≡ c.args.self.now.entries = ap (λ (v : BookView g.row.D.Denot). v.entries) c.self.view_is in
     let m = subst (λ (es : List Entry). MayFollow es c.args.e) (sym is_entries) c.requires in
     let coded : c.as_slice.result.now ≡ coding_of c.args.e = c.as_slice.ensures.value ∙ c.in-Ok.ensures.coding in
-    let last : c.enter.new.self.entries.items ≡ old.kept.entries.items ++ c.args.e ∷ [] = c.enter.ensures ∙ ap (λ (l : List Entry). l ++ c.args.e ∷ []) c.in-Ok.ensures.entries in
-    entered_whole D.may_leave D.is_honest old.journal c.append.new.journal old.kept.entries.items c.args.e old.spent old.tried old.used c.self.invariant unspent c.as_slice.result.now coded m
-    D.fault_count c.enter.new.self.entries.items c.used-self-inside.result c.in-Done.ensures.answer last c.used-self-inside.ensures
+    let last : c.enter.new.self.entries ≡ old.kept.entries ++ c.args.e ∷ [] = c.enter.ensures ∙ ap (λ (l : List Entry). l ++ c.args.e ∷ []) c.in-Ok.ensures.entries in
+    entered_whole D.may_leave D.is_honest old.journal c.append.new.journal old.kept.entries c.args.e old.spent old.tried old.used c.self.invariant unspent c.as_slice.result.now coded m
+    D.fault_count c.enter.new.self.entries c.used-self-inside.result c.in-Done.ensures.answer last c.used-self-inside.ensures
     (λ honest image may. c.in-Done.ensures.durable (c.append.ensures.honest.0 honest) image may)
