@@ -1,5 +1,5 @@
 -- The least start and the greatest end of volumes.
-use Rattle.std.proofs.Common.{ℕ, ◌<◌, ◌+◌, ◌≡◌, ◌⊎◌, inl, inr, Bool, true, ℤ, List, [], ◌∷◌, ◌++◌, length, length-append, get_or, ◌||◌, Some, is_some, refl, ap, sym, ◌∙◌, arith, zero, suc}
+use Rattle.std.proofs.Common.{ℕ, ◌<◌, ◌+◌, ◌≡◌, true, ℤ, List, [], ◌∷◌, ◌++◌, length, length-append, get_or, ◌||◌, Some, is_some, refl, arith, zero, suc}
 use Rattle.std.specs.Prelude.{◌≤ℤ◌, All, Any, int_le, nat_le, nat_lt}
 use Rattle.std.specs.Int.{int_min, int_max}
 use Rattle.std.specs.List.{list_all, list_any}
@@ -10,7 +10,7 @@ use Rattle.std.proofs.lemmas.Cmp.{int_eq_equiv}
 use Rattle.std.proofs.lemmas.List.Sums.{list_all-from_AllPass}
 use Rattle.std.proofs.lemmas.List.Folds.{list_any-from_Any}
 use Rattle.std.proofs.lemmas.List.Elements.{All-append}
-use Rattle.uss_shape.proofs.Ring.{lin, linc}
+use Rattle.uss_shape.proofs.Ring.{linc}
 use Rattle.uss_shape.proofs.Extreme.{any_here, any_more}
 use Rattle.uss_shape.specs.Shape.{IsLeast, IsGreatest}
 use Rattle.uss_vol4.specs.Volume.{Volume4D, IsVolume}

@@ -1,11 +1,9 @@
 -- Each attempt of a legal book can be recorded.
-use Rattle.std.proofs.Common.{ℕ, ◌≤◌, true, List, [], ◌∷◌, ◌++◌, ◌≡◌, ◌⊎◌, inl, inr, length, get_or, refl, ap, sym, subst, ◌∙◌, Option, Some, None}
-use Rattle.std.specs.Prelude.{All}
+use Rattle.std.proofs.Common.{ℕ, ◌≤◌, true, List, [], ◌∷◌, ◌++◌, ◌≡◌, inl, inr, length, refl, ap, subst, Option, Some, None}
 use Rattle.std.specs.Option.{option_map}
 use Rattle.std.specs.List.{slice_get}
-use Rattle.uss_vol4.specs.Volume.{IsVolume}
 use Rattle.uss_intent.specs.declared.records.State.{State}
-use Rattle.uss_event.specs.Pairs.{OperationalIntent, pair_from, is_pair}
+use Rattle.uss_event.specs.Pairs.{pair_from, is_pair}
 use Rattle.uss_event.specs.declared.details.Proposal.{Proposal}
 use Rattle.uss_event.specs.declared.asks.Wish.{Wish}
 use Rattle.uss_event.specs.declared.asks.Wish.TheVariants.{Put, End}
@@ -17,7 +15,7 @@ use Rattle.uss_event.specs.declared.entries.Entry.TheVariants as Enters
 use Rattle.uss_law_dss.specs.Lists.{Has}
 use Rattle.uss_law_book.specs.Lists.{Opening, Trial, owner_of, openings}
 use Rattle.uss_law_book.specs.Readings.{opening_of, trial_of}
-use Rattle.uss_law_book.specs.Coding.{HasCoding, IsWish}
+use Rattle.uss_law_book.specs.Coding.{IsWish}
 use Rattle.uss_law_book.specs.Legal.{IsLegal, MayFollow, MayWish}
 use Rattle.uss_law_book.specs.Attempts.{Attempted, attempted, by_wish, by_opening, by_trial, attempt_of, recorded_as}
 use Rattle.uss_law_book.proofs.Entries.{which_opening}

@@ -1,6 +1,5 @@
 -- What was recorded last of each flight, as entries come.
 use Rattle.std.proofs.Common.{ℕ, ◌==◌, Bool, true, false, cond, List, [], ◌∷◌, ◌++◌, ◌≡◌, ◌⊎◌, inl, inr, refl, ap, sym, subst, ◌∙◌, Option, Some, None, is_some}
-use Rattle.std.specs.Prelude.{IsTrue}
 use Rattle.std.specs.List.{last_or}
 use Rattle.std.specs.Option.{option_map}
 use Rattle.std.specs.Ordering.{nat_cmp}
@@ -22,7 +21,7 @@ use Rattle.uss_law_book.proofs.Attempts.{attempt_kept}
 use Rattle.uss_law_book.proofs.EachOrderly.{owned}
 use Rattle.uss_law_book.proofs.Kept.{open_parts}
 use Rattle.uss_entries.specs.Flights.{flight_in}
-use Rattle.uss_entries.specs.Records.{AreRecords, pair_in, pair_for, has_pair_room}
+use Rattle.uss_entries.specs.Records.{AreRecords, pair_in, pair_for}
 use Rattle.uss_entries.proofs.Grown.{last_holding_else, last_holding_new, job_of_old}
 
 -- a flight with room isn't missing

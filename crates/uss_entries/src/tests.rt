@@ -5,7 +5,7 @@ use std::alloc::{AllocError, Global};
 use std::test::Fail;
 use uss_coding::read;
 use uss_event::Entry;
-use uss_intent::State;
+use uss_intent::{State, tag_of};
 use uss_legal::{Plain, Tells};
 
 struct Row {
@@ -273,15 +273,20 @@ fn agree_on_flight<S: Tells, T: Tells>(book: &S, plain: &T, flight: u64) -> bool
 fn holds_the_last<T: Tells>(book: &Entries, plain: &T, flight: u64) -> bool {
     let held = book.held(flight);
     match plain.last_recorded(flight) {
-        Some(Entry::Held {
-            tag, ovn, version, ..
-        }) => match held {
+        Some(
+            Entry::Held {
+                tag,
+                ovn,
+                version,
+                ..
+            },
+        ) => match held {
             Some(pair) => {
                 let reference = pair.reference();
                 !plain.has_ended(flight)
                     && reference.version == *version
-                    && reference.base.tag() == Some(*tag)
-                    && reference.ovn.as_ref().is_some_and(|o| o == ovn)
+                    && tag_of(&reference.base) == Some(*tag)
+                    && matches!(&reference.ovn, Some(o) if o == ovn)
             }
             None => plain.has_ended(flight),
         },

@@ -1,4 +1,4 @@
-use Rattle.std.proofs.Common.{◌≡◌, ◌∙◌, ap, sym, refl, Some}
+use Rattle.std.proofs.Common.{◌≡◌, ◌∙◌, ap, refl}
 use Rattle.uss_intent.specs.declared.records.Reference.{Reference}
 use Rattle.uss_event.specs.declared.details.Details.{Details}
 use Rattle.uss_event.specs.Pairs.{OperationalIntent, pair_from}

@@ -1,6 +1,5 @@
-use Rattle.std.proofs.Common.{◌≡◌, ◌∙◌, ap, sym, refl, Some, None}
-use Rattle.std.specs.Prelude.{IfOk}
-use Rattle.std.specs.Option.{option_and_then, option_copied}
+use Rattle.std.proofs.Common.{◌≡◌, ◌∙◌, ap, sym, Some, None}
+use Rattle.std.specs.Option.{option_and_then}
 use Rattle.uss_legal.specs.Speaks.{trial_in}
 use Rattle.uss_legal.proofs.Direct.{trial_by_find}
 use Rattle.uss_law_book.specs.Readings.{trial_of}

@@ -4,7 +4,7 @@ use Rattle.uss_law_book.specs.Lists.{owner_of}
 use Rattle.uss_law_book.specs.Readings.{opening_of}
 use Rattle.uss_legal.specs.Speaks.{opening_in}
 use Rattle.uss_legal.proofs.Direct.{opening_by_find}
-use Rattle.uss_entries.specs.Records.{ask_of, pair_by_ask}
+use Rattle.uss_entries.specs.Records.{ask_of}
 use Rattle.uss_entries.proofs.Planned.{asked_is_planned, owner_is_short}
 use Rattle.uss_entries.proofs.made.pair_by_tried.Goals as goal
 

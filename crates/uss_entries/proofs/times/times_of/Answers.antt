@@ -1,4 +1,4 @@
-use Rattle.std.proofs.Common.{rules, ◌≡◌, ◌<◌, ◌∙◌, ap, length}
+use Rattle.std.proofs.Common.{rules, ◌<◌, ◌∙◌, ap, length}
 use Rattle.std.specs.Int.{int_min, int_max}
 use Rattle.uss_vol4.specs.declared.Box4.{Box4}
 use Rattle.uss_vol4.specs.Bounding.{bounding_box}

@@ -1,9 +1,8 @@
-use Rattle.std.proofs.Common.{sym, ap, ◌∙◌, ◌≡◌, cond, Some, None, is_some, true}
+use Rattle.std.proofs.Common.{◌∙◌, ◌≡◌, is_some, true}
 use Rattle.std.specs.BTreeMap as tree
 use Rattle.std.specs.Ordering.{nat_cmp}
-use Rattle.uss_entries.specs.Records.{has_pair_room}
 use Rattle.uss_entries.proofs.Places.{done}
-use Rattle.uss_entries.proofs.Recorded.{recorded, records_stay, recorded_of_flight, not_missing}
+use Rattle.uss_entries.proofs.Recorded.{recorded, records_stay, not_missing}
 use Rattle.uss_entries.proofs.records.Records.enter.Goals as goal
 
 pub returns-in-Some-flight : goal.returns-in-Some-flight
