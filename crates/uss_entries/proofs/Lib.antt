@@ -11,3 +11,6 @@ pub mod Sums
 pub mod Needed
 pub mod Settled
 pub mod Fits
+pub mod Lasting
+pub mod Planned
+pub mod Recorded

@@ -3,6 +3,7 @@ pub mod MarkOrder
 pub mod Firsts
 pub mod Tallies
 pub mod Flights
+pub mod Records
 pub mod Index
 pub mod Known
 pub mod Kept

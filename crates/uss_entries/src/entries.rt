@@ -19,6 +19,7 @@ use uss_legal::is_due;
 pub struct Entries {
     pub(crate) entries: Vec<Entry>,
     pub(crate) index: Index,
+    alloc: Global,
     /// For what room was made, until an entry comes.
     ready: Option<Room>,
     /// The bytes to be kept free.
@@ -60,6 +61,7 @@ impl Entries {
         Entries {
             entries: Vec::new(alloc),
             index: Index::new(alloc),
+            alloc,
             ready: None,
             need: 0,
             settled: 9,
@@ -128,9 +130,9 @@ impl Entries {
         ensures room { OnOk result (IsReadyFor self.new e.now) }
     {
         self.ready = None;
-        let room = room_for(&self.entries, &self.index.firsts, e);
+        let room = room_for(self.alloc, &self.entries, &self.index.firsts, e)?;
         self.entries.reserve(1)?;
-        self.index.make_room(room)?;
+        self.index.make_room(&room)?;
         self.ready = Some(room);
         Ok(())
     }
@@ -147,7 +149,7 @@ impl Entries {
         let place = count(&self.entries);
         self.need = need_after(self.need, &self.entries, &self.index.firsts, &e);
         self.settled = settled_after(self.settled, &self.entries, &self.index, &e);
-        self.index.enter(&e, place, room.flight);
+        self.index.enter(&e, place, room.flight, room.pair);
         put(&mut self.entries, e);
     }
 }

@@ -1,5 +1,6 @@
 use crate::firsts::Firsts;
 use crate::flights::Flights;
+use crate::records::Records;
 use crate::tallies::Tallies;
 
 /// The index over the entries of a book.
@@ -12,4 +13,5 @@ pub(crate) struct Index {
     pub(crate) firsts: Firsts,
     pub(crate) tallies: Tallies,
     pub(crate) flights: Flights,
+    pub(crate) records: Records,
 }

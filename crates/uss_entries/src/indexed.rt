@@ -1,27 +1,30 @@
 // The index, as entries come.
-ghost use Rattle.std.specs.Prelude.{◌≡◌, ◌++◌, ◌∷◌, [], List, length, find, slice_get, OnOk};
+ghost use Rattle.std.specs.Prelude.{◌≡◌, ◌++◌, ◌∷◌, [], List, length, find, slice_get, OnOk, IfOk};
 ghost use Rattle.std.specs.Option.{option_copied, option_and_then, option_map};
 ghost use Rattle.std.specs.BTreeMap.{get};
 ghost use Rattle.std.specs.Ordering.{nat_cmp};
 ghost use Rattle.uss_event.specs.declared.entries.Entry.{Entry};
 ghost use Rattle.uss_law_book.specs.Coding.{HasCoding};
-ghost use Rattle.uss_law_book.specs.Legal.{MayFollow};
+ghost use Rattle.uss_law_book.specs.Legal.{IsLegal, MayFollow};
 ghost use Rattle.uss_law_book.specs.Orderly.{IsOrderly};
 ghost use Rattle.uss_legal.specs.Speaks.{job_of, opening_in};
 ghost use Rattle.uss_entries.specs.Marks.{mark_of, has_mark};
 ghost use Rattle.uss_entries.specs.Firsts.{AreFirsts};
 ghost use Rattle.uss_entries.specs.Tallies.{CanGrow};
 ghost use Rattle.uss_entries.specs.Flights.{flight_in};
+ghost use Rattle.uss_entries.specs.Records.{pair_for};
 ghost use Rattle.uss_entries.specs.Index.{IsIndex, HasRoom, room_for, job_after, tag_after};
 
 use crate::firsts::Firsts;
 use crate::flights::Flights;
 use crate::index::Index;
+use crate::made::pair_for;
 use crate::marks::{Mark, mark_of};
+use crate::records::Records;
 use crate::room::Room;
 use crate::tallies::{Tallies, job_of};
 use std::alloc::{AllocError, Global};
-use uss_event::Entry;
+use uss_event::{Entry, Pair};
 
 /// The entry at the place.
 pub(crate) fn at(entries: &[Entry], place: Option<usize>) -> Option<&Entry>
@@ -66,15 +69,23 @@ fn flight_in(entries: &[Entry], firsts: &Firsts, e: &Entry) -> Option<u64>
     }
 }
 
-/// What the entry needs room for.
-pub(crate) fn room_for(entries: &[Entry], firsts: &Firsts, e: &Entry) -> Room
-    ensures { AreFirsts firsts.now.places entries.now → result ≡ room_for entries.now e.now }
+/// What the entry needs room for, and what it records.
+pub(crate) fn room_for(
+    alloc: Global,
+    entries: &[Entry],
+    firsts: &Firsts,
+    e: &Entry,
+) -> Result<Room, AllocError>
+    requires legal { IsLegal entries.now }
+    requires index { AreFirsts firsts.now.places entries.now }
+    ensures { IfOk result (λ room. room ≡ room_for entries.now e.now) }
 {
-    Room {
+    Ok(Room {
         mark: mark_of(e),
         job: job_of(e),
         flight: flight_in(entries, firsts, e),
-    }
+        pair: pair_for(alloc, entries, firsts, e)?,
+    })
 }
 
 fn job_after(jobs: u64, e: &Entry) -> u64
@@ -106,30 +117,33 @@ impl Index {
             firsts: Firsts::new(alloc),
             tallies: Tallies::new(alloc),
             flights: Flights::new(alloc),
+            records: Records::new(alloc),
         }
     }
 
     /// Makes room for what an entry brings.
-    pub(crate) fn make_room(&mut self, room: Room) -> Result<(), AllocError>
+    pub(crate) fn make_room(&mut self, room: &Room) -> Result<(), AllocError>
         ensures kept { (es : List Entry) → IsIndex self.old es → IsIndex self.new es }
-        ensures room { OnOk result (HasRoom self.new room) }
+        ensures room { OnOk result (HasRoom self.new room.now) }
     {
         self.firsts.make_room(room.mark)?;
         self.tallies.make_room(room.job)?;
-        self.flights.make_room(room.flight)
+        self.flights.make_room(room.flight)?;
+        self.records.make_room(room.flight)
     }
 
-    /// Takes an entry down, which comes at this place and changes what is kept of this flight. Takes no memory.
-    pub(crate) fn enter(&mut self, e: &Entry, place: usize, flight: Option<u64>)
+    /// Takes an entry down, which comes at this place, changes what is kept of this flight and records this. Takes no memory.
+    pub(crate) fn enter(&mut self, e: &Entry, place: usize, flight: Option<u64>, pair: Option<Pair>)
         requires coding { HasCoding e.now }
         requires fits { CanGrow (get nat_cmp self.old.tallies.tallies (job_of e.now)) e.now }
-        requires room { HasRoom self.old (record { mark = mark_of e.now; job = job_of e.now; flight = flight }) }
-        ensures { (es : List Entry) → IsIndex self.old es → IsOrderly es → MayFollow es e.now → flight ≡ flight_in es e.now → length es ≡ place → IsIndex self.new (es ++ e.now ∷ []) }
+        requires room { HasRoom self.old (record { mark = mark_of e.now; job = job_of e.now; flight = flight; pair = pair }) }
+        ensures { (es : List Entry) → IsIndex self.old es → IsOrderly es → MayFollow es e.now → flight ≡ flight_in es e.now → pair ≡ pair_for es e.now → length es ≡ place → IsIndex self.new (es ++ e.now ∷ []) }
     {
         self.jobs = job_after(self.jobs, e);
         self.tags = tag_after(self.tags, e);
         self.firsts.enter(mark_of(e), place);
         self.tallies.enter(e);
         self.flights.enter(flight, e, place);
+        self.records.enter(flight, pair);
     }
 }

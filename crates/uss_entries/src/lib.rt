@@ -8,7 +8,9 @@ mod flight;
 mod flights;
 mod index;
 mod indexed;
+mod made;
 mod marks;
+mod records;
 mod reserve;
 mod room;
 mod tallies;
@@ -16,5 +18,7 @@ mod tally;
 mod tells;
 #[cfg(test)]
 mod tests;
+mod times;
+mod tried;
 
 pub use entries::Entries;

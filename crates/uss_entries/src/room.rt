@@ -1,10 +1,13 @@
 use crate::marks::Mark;
+use uss_event::Pair;
 
-/// What an entry needs room for.
-#[derive(Clone, Copy, Drop)]
+/// What an entry needs room for, and what it records.
+#[derive(Drop)]
 pub(crate) struct Room {
     pub(crate) mark: Mark,
     pub(crate) job: u64,
     /// The flight of which it changes what is kept.
     pub(crate) flight: Option<u64>,
+    /// What it records of the flight, made beforehand.
+    pub(crate) pair: Option<Pair>,
 }

@@ -2,6 +2,7 @@
 ghost use Rattle.std.specs.Prelude.{◌≡◌, find, Some};
 ghost use Rattle.std.specs.List.{list_any};
 ghost use Rattle.std.specs.Option.{option_copied, option_and_then};
+ghost use Rattle.uss_law_book.specs.Attempts.{held};
 ghost use Rattle.uss_law_book.specs.Readings.{is_closed};
 ghost use Rattle.uss_legal.specs.Speaks.{opening_in, trial_in};
 ghost use Rattle.uss_entries.specs.Marks.{has_mark};
@@ -12,7 +13,7 @@ use crate::Entries;
 use crate::flight::Flight;
 use crate::indexed::{at, first};
 use crate::marks::Mark;
-use uss_event::{Entry, Owner};
+use uss_event::{Entry, Owner, Pair};
 use uss_legal::Tells;
 
 /// Whether the attempt is one of the job.
@@ -62,6 +63,18 @@ impl Entries {
         ensures { IsFlight self.now.entries flight (Some result) }
     {
         self.index.flights.flight(flight)
+    }
+
+    /// What the book holds of the flight: the last that was recorded of it, and none where it has ended. Takes no memory.
+    #[tactic(auto, unfolding(uss_law_book::specs::Attempts::held, uss_law_book::specs::Readings::holding))]
+    pub fn held(&self, flight: u64) -> Option<&Pair>
+        ensures { option_copied result ≡ held flight self.now.entries }
+    {
+        if self.kept_of(flight).ended {
+            None
+        } else {
+            self.index.records.pair(flight)
+        }
     }
 }
 
