@@ -19,3 +19,6 @@ pub use outcomes::{write_outcome, write_swept};
 pub use writing::{
     messages_are_read_again, write_asks, write_details_answer, write_notification, write_positions,
 };
+
+#[cfg(test)]
+mod tests;
