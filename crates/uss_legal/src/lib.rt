@@ -17,8 +17,8 @@ mod tells;
 mod tests;
 
 pub use due::{
-    is_closed, is_open, is_ticket_gone, may_decide, may_hold, may_open_ticket, may_retire, may_tell,
-    may_try, owed_by,
+    is_closed, is_open, is_ticket_gone, may_decide, may_hold, may_open_ticket, may_retire,
+    may_tell, may_try, owed_by,
 };
 pub use ends::may_end;
 pub use law::tests_are_exact;

@@ -6,3 +6,6 @@ mod outcome;
 mod words;
 
 pub use outcome::Outcome;
+
+#[cfg(test)]
+mod tests;

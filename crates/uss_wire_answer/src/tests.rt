@@ -1,6 +1,8 @@
-use crate::{read_change_answer, read_error, write_change_answer};
+use crate::{ErrorBody, read_change_answer, read_error, write_change_answer, write_error};
+use std::alloc::Global;
+use std::str;
 use std::test::Fail;
-use uss_intent::Name;
+use uss_intent::{Name, References, Sequence};
 use uss_wire_base::{Member, WireRefusal};
 
 // A change of uss1's reference, of which uss2 is told.
@@ -70,5 +72,45 @@ fn reads_answers(rt: HostRuntime) -> Result<(), Fail> {
         panic!(rt; "the answer isn't read");
     };
     assert!(rt; shown.ovn.is_none());
+    Ok(())
+}
+
+// The number of an error, and the error as it is written.
+const WRITTEN: [(u16, &str); 2] = [
+    (205, "{\"message\":\"Absent\",\"refusal\":205}"),
+    (
+        209,
+        "{\"message\":\"MissingKey\",\"missing_operational_intents\":[],\"refusal\":209}",
+    ),
+];
+
+// The bytes of an error that lacks no reference.
+fn written(alloc: Global, message: Sequence<u8>, refusal: u16) -> Option<Vec<u8>> {
+    let error = ErrorBody {
+        message,
+        refusal,
+        missing: References::new(alloc),
+    };
+    match str::from_utf8(error.message.as_slice()) {
+        Ok(_) => write_error(alloc, &error).ok(),
+        Err(_) => None,
+    }
+}
+
+#[test]
+fn writes_the_errors_that_it_reads(rt: HostRuntime) -> Result<(), Fail> {
+    let alloc = rt.alloc();
+    let Ok(own) = Name::of(alloc, b"uss1") else {
+        panic!(rt; "uss1 is a name");
+    };
+    for (refusal, text) in WRITTEN {
+        let Ok(error) = read_error(alloc, text.as_bytes(), &own) else {
+            panic!(rt; "the error isn't read");
+        };
+        let Some(bytes) = written(alloc, error.message, refusal) else {
+            panic!(rt; "the error isn't written");
+        };
+        assert!(rt; bytes.as_slice() == text.as_bytes());
+    }
     Ok(())
 }
