@@ -5,6 +5,7 @@ ghost use Rattle.uss_disk.specs.Disk.{bytes_of, CrashLeaves};
 ghost use Rattle.uss_journal.specs.Format.{stands_for};
 ghost use Rattle.uss_law_book.specs.Lists.{owner_of};
 ghost use Rattle.uss_law_book.specs.Readings.{open_job_of, last_of, trials_of, owns};
+ghost use Rattle.uss_law_book.specs.Attempts.{held};
 ghost use Rattle.uss_law_book.specs.Coding.{HasCoding, journal_length};
 ghost use Rattle.uss_law_book.specs.Legal.{MayFollow, IsLegal};
 ghost use Rattle.uss_law_book.specs.Reserve.{need};
@@ -23,7 +24,7 @@ use std::alloc::Global;
 use std::marker::Model;
 use uss_disk::Disk;
 use uss_entries::Entries;
-use uss_event::{Entry, Owner};
+use uss_event::{Entry, Owner, Pair};
 use uss_journal::Journal;
 use uss_legal::Tells;
 
@@ -299,6 +300,13 @@ impl<D: Disk> Book<D> {
         ensures { result ≡ option_map (λ o. (o.ask.number, o.job)) (last_of flight self.now.entries) }
     {
         request_of(self.kept.last(flight))
+    }
+
+    /// What the book holds of the flight: the intent that was recorded of it last, and none where it has ended. Takes no memory.
+    pub fn held(&self, flight: u64) -> Option<&Pair>
+        ensures { option_copied result ≡ held flight self.now.entries }
+    {
+        self.kept.held(flight)
     }
 
     /// How many attempts the job made. Takes no memory.
