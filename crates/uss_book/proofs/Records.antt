@@ -1,5 +1,5 @@
 -- The records of a legal book.
-use Rattle.std.proofs.Common.{ℕ, ◌+◌, Bool, true, false, List, [], ◌∷◌, ◌++◌, ◌≡◌, map, take, refl, sym, ap, subst, ◌∙◌, Some, IsTrue}
+use Rattle.std.proofs.Common.{ℕ, ◌+◌, List, [], ◌∷◌, ◌++◌, ◌≡◌, map, take, sym, ap, subst, ◌∙◌, Some}
 use Rattle.std.specs.Prelude.{All, slice_get}
 use Rattle.std.proofs.lemmas.List.Elements.{All-nil, All-cons}
 use Rattle.std.proofs.lemmas.List.{map-append, take_more}
@@ -9,7 +9,6 @@ use Rattle.uss_law_book.specs.Coding.{HasCoding}
 use Rattle.uss_law_book.specs.Legal.{MayFollow, MayAllFollow, IsLegal}
 use Rattle.uss_law_book.proofs.EachOrderly.{legal_longer}
 use Rattle.uss_coding.specs.Coding.{coding_of}
-use Rattle.uss_coding.specs.Laws.{one_coding}
 use Rattle.uss_book.specs.Book.{records_of}
 use Rattle.uss_book.specs.Judge.{IsFollowed}
 
