@@ -4,8 +4,6 @@ use crate::Entries;
 use std::alloc::{AllocError, Global};
 use std::test::Fail;
 use uss_coding::read;
-use uss_event::Entry;
-use uss_intent::{State, tag_of};
 use uss_legal::{Plain, Tells};
 
 struct Row {
@@ -16,7 +14,7 @@ struct Row {
 }
 
 // The codings were made apart from this program, and the lengths counted there.
-const ROWS: [Row; 31] = [
+const ROWS: [Row; 23] = [
     // the owner
     Row {
         entry: b"\x01\x00\x00\x00\x07\x00\x00\x00\x03uss\x00\x00\x00\x0dhttp://u.test\x00\x00\x00\x02\x00\x05\x03\xe8",
@@ -178,62 +176,6 @@ const ROWS: [Row; 31] = [
         need: 64,
         settled: 710,
     },
-    // a job that is to plan flight 8 again
-    Row {
-        entry: b"\x02\x00\x00\x00\x00\x00\x00\x00\x04\x0d#L\xcfRC\x00\x00\x00\x00\x00\x00\x00\x00\x00\x08\x00\x00\x00\x00\x00\x00\x00\x02\x01\x01\x00\x00\x02\x01\x01\x00\x00\x00\x03\x00\x00\x00\x00\x00\x00\x00\x00\x00\x00\x00\x00\x00\x00\x00\x00\x00\x00\x00\x00\x00\x00\x00\x0a\x00\x00\x00\x00\x00\x00\x00\x00\xff\xff\xff\xff\x94\xb6.\x00\xff\xff\xff\xff\xff\xff\xff\xfb\xff\xff\xff\xff\xff\xff\xff\xff\x00\x00\x00\x00\x00\x01\xd4\xc0\x0d#L\xcfRC\x00\x00\x0d#L\xcfRC\x00\x01\x00",
-        follows: true,
-        need: 8388672,
-        settled: 840,
-    },
-    // its ticket
-    Row {
-        entry: b"\x03\x00\x00\x00\x00\x00\x00\x00\x04",
-        follows: true,
-        need: 8388672,
-        settled: 840,
-    },
-    // an attempt
-    Row {
-        entry: b"\x04\x00\x00\x00\x00\x00\x00\x00\x04\x00\x00\x00\x00\x00\x00\x00\x03\x00\x00\x00\x00\x00\x00",
-        follows: true,
-        need: 8388672,
-        settled: 840,
-    },
-    // its record
-    Row {
-        entry: b"\x05\x00\x00\x00\x00\x00\x00\x00\x04\x00\x00\x00\x00\x00\x00\x00\x03\x00\x00\x00\x14ovn-0000000000000001\x00\x00\x00\x01\x00\x00\x00\x00",
-        follows: true,
-        need: 128,
-        settled: 936,
-    },
-    // a job that is to activate it
-    Row {
-        entry: b"\x02\x00\x00\x00\x00\x00\x00\x00\x05\x0d#L\xcfRC\x00\x00\x00\x00\x00\x00\x00\x00\x00\x08\x00\x00\x00\x00\x00\x00\x00\x03\x01\x02\x00\x00\x02\x01\x01\x00\x00\x00\x03\x00\x00\x00\x00\x00\x00\x00\x00\x00\x00\x00\x00\x00\x00\x00\x00\x00\x00\x00\x00\x00\x00\x00\x0a\x00\x00\x00\x00\x00\x00\x00\x00\xff\xff\xff\xff\x94\xb6.\x00\xff\xff\xff\xff\xff\xff\xff\xfb\xff\xff\xff\xff\xff\xff\xff\xff\x00\x00\x00\x00\x00\x01\xd4\xc0\x0d#L\xcfRC\x00\x00\x0d#L\xcfRC\x00\x01\x00",
-        follows: true,
-        need: 8388736,
-        settled: 1066,
-    },
-    // its ticket
-    Row {
-        entry: b"\x03\x00\x00\x00\x00\x00\x00\x00\x05",
-        follows: true,
-        need: 8388736,
-        settled: 1066,
-    },
-    // an attempt
-    Row {
-        entry: b"\x04\x00\x00\x00\x00\x00\x00\x00\x05\x00\x00\x00\x00\x00\x00\x00\x04\x00\x01\x00\x00\x00\x14ovn-0000000000000001\x00\x00\x00\x00",
-        follows: true,
-        need: 8388736,
-        settled: 1066,
-    },
-    // its record
-    Row {
-        entry: b"\x05\x00\x00\x00\x00\x00\x00\x00\x05\x00\x00\x00\x00\x00\x00\x00\x04\x00\x00\x00\x14ovn-0000000000000002\x00\x00\x00\x02\x00\x00\x00\x00",
-        follows: true,
-        need: 192,
-        settled: 1186,
-    },
 ];
 
 // Enters the entry with this coding, where it may follow.
@@ -269,31 +211,6 @@ fn agree_on_flight<S: Tells, T: Tells>(book: &S, plain: &T, flight: u64) -> bool
         && book.last_recorded(flight).is_some() == plain.last_recorded(flight).is_some()
 }
 
-// Whether what the book holds of the flight has the version, the OVN and the tag that were recorded last of it; none where it ended.
-fn holds_the_last<T: Tells>(book: &Entries, plain: &T, flight: u64) -> bool {
-    let held = book.held(flight);
-    match plain.last_recorded(flight) {
-        Some(
-            Entry::Held {
-                tag,
-                ovn,
-                version,
-                ..
-            },
-        ) => match held {
-            Some(pair) => {
-                let reference = pair.reference();
-                !plain.has_ended(flight)
-                    && reference.version == *version
-                    && tag_of(&reference.base) == Some(*tag)
-                    && matches!(&reference.ovn, Some(o) if o == ovn)
-            }
-            None => plain.has_ended(flight),
-        },
-        _ => held.is_none(),
-    }
-}
-
 #[test]
 fn a_book_tells_what_its_list_tells(rt: HostRuntime) -> Result<(), Fail> {
     let mut book = Entries::new(rt.alloc());
@@ -310,16 +227,10 @@ fn a_book_tells_what_its_list_tells(rt: HostRuntime) -> Result<(), Fail> {
         for number in 0..4 {
             assert!(rt; agree_on_job(&book, &plain, number));
             assert!(rt; agree_on_flight(&book, &plain, 5 + number));
-            assert!(rt; holds_the_last(&book, &plain, 5 + number));
         }
     }
-    assert_eq!(rt; book.len(), 23);
-    assert!(rt; book.entry(22).is_some());
-    assert!(rt; book.entry(23).is_none());
-    assert!(rt; book.held(7).is_none());
-    let held = book.held(8).ok_or("nothing is held")?;
-    assert!(rt; held.reference().state == State::Activated);
-    assert_eq!(rt; held.reference().base.as_str(), "http://u.test/a/4");
-    assert_eq!(rt; held.details().volumes.len(), 1);
+    assert_eq!(rt; book.len(), 15);
+    assert!(rt; book.entry(14).is_some());
+    assert!(rt; book.entry(15).is_none());
     Ok(())
 }
