@@ -16,7 +16,7 @@ use Rattle.uss_law_book.specs.Reserve.{reserved, need, ReserveCovers}
 use Rattle.uss_coding.specs.Coding.{coding_of}
 use Rattle.uss_coding.specs.Laws.{few_in_table}
 use Rattle.uss_book.specs.Book.{StandsForBook, new_book}
-use Rattle.uss_book.specs.Refusal.{IsPassedOn}
+use Rattle.uss_book.specs.Refusal.{IsPassedOn, UnlessFault, passed_on}
 use Rattle.uss_book.proofs.Room.{legal_covers, short_name}
 use Rattle.uss_book.proofs.Lengths.{fits_after}
 
@@ -50,6 +50,14 @@ append_passed fault_count old bytes (NotAJournal place) new h unspent fits = tt
 append_passed fault_count old bytes Memory new h unspent fits = tt
 append_passed fault_count old bytes JournalFull new h unspent fits = omega (arith, fits, h.1)
 append_passed fault_count old bytes (Spent count) new h unspent fits = let e = sym unspent ∙ h.0 in cc
+
+-- an append that is refused but for a fault leaves the disk as it was
+pub append_untouched : {D : Type 0} (fault_count : D → ℕ) (old : JournalView D) (bytes : List ℕ) (r : JournalRefusal) (new : JournalView D) → AppendRefused fault_count old bytes r new → UnlessFault (passed_on r) (new.disk ≡ old.disk)
+append_untouched fault_count old bytes DiskFault new h = tt
+append_untouched fault_count old bytes (NotAJournal place) new h = absurd h
+append_untouched {D} fault_count old bytes Memory new h = ap (λ (j : JournalView D). j.disk) h.2
+append_untouched {D} fault_count old bytes JournalFull new h = ap (λ (j : JournalView D). j.disk) h.2
+append_untouched {D} fault_count old bytes (Spent count) new h = ap (λ (j : JournalView D). j.disk) h.1
 
 -- what a crash leaves of an empty journal, while the first entry is appended
 pub start_crash : {D : Type 0} (may_leave : D → List ℕ → Type 0) (moment : D → ℕ) (left_since : D → ℕ → List ℕ → Type 0) (old new : D) (o : Owner) (records : List (List ℕ)) (bytes : List ℕ)

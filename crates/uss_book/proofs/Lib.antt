@@ -6,3 +6,4 @@ pub mod Room
 pub mod FirstEntry
 pub mod Rereading
 pub mod Mounting
+pub mod Ends

@@ -34,21 +34,21 @@ read_records (Err place) = []
 one_reading : (a b : List (List ℕ)) (r : Result (List (List ℕ)) ℕ) → r ≡ Ok a → r ≡ Ok b → a ≡ b
 one_reading a b r e f = ap read_records (sym e ∙ f)
 
-pub by_records : (known : List Entry) (records : List (List ℕ)) (fault : BookFault) → RereadBy known records fault → IsByRecords known fault
-by_records known records (Faults.BadEntry n) h = record { records = records; by = h }
-by_records known records (Faults.OtherOwner kept) h = record { records = records; by = h }
-by_records known records (Faults.Changed n) h = record { records = records; by = h }
+pub by_records : (known : List Entry) (records : List (List ℕ)) (fault : BookFault) → RereadBy known records fault → IsByRecords known records fault
+by_records known records (Faults.BadEntry n) h = h
+by_records known records (Faults.OtherOwner kept) h = h
+by_records known records (Faults.Changed n) h = h
 by_records known records Faults.Memory h = tt
 by_records known records Faults.DiskFault h = tt
 by_records known records (Faults.NotAJournal place) h = tt
 by_records known records (Faults.Spent count) h = tt
 
-pub by_journal : (known : List Entry) (r : JournalRefusal) → IsByRecords known (passed_on r)
-by_journal known DiskFault = tt
-by_journal known (NotAJournal place) = tt
-by_journal known Memory = tt
-by_journal known JournalFull = tt
-by_journal known (Spent count) = tt
+pub by_journal : (known : List Entry) (records : List (List ℕ)) (r : JournalRefusal) → IsByRecords known records (passed_on r)
+by_journal known records DiskFault = tt
+by_journal known records (NotAJournal place) = tt
+by_journal known records Memory = tt
+by_journal known records JournalFull = tt
+by_journal known records (Spent count) = tt
 
 apart_some : (spent : Option ℕ) (faults : ℕ) → apart spent faults ≡ None → ⊥
 apart_some None faults e = cc

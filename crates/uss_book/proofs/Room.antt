@@ -44,7 +44,7 @@ legal_covers book h = covers_from [] book covers_at_first h
 -- ---- sums over jobs
 
 -- the entry is one that the job made after its opening
-abbrev made_by : ℕ → Entry → Bool
+abbrev pub made_by : ℕ → Entry → Bool
 made_by job (Enters.Owner owner) = false
 made_by job (Opened j moment ask) = false
 made_by job (TicketOpen j) = j == job
@@ -55,11 +55,11 @@ made_by job (Done j end) = j == job
 made_by job (TicketGone j) = j == job
 made_by job (Sent j place) = j == job
 
-abbrev weight : ℕ → Entry → ℕ
+abbrev pub weight : ℕ → Entry → ℕ
 weight job e = cond (made_by job e) (record_length e) 0
 
 -- the bytes of what a job wrote after its opening
-abbrev written_by : ℕ → List Entry → ℕ
+abbrev pub written_by : ℕ → List Entry → ℕ
 written_by job es = sum_by (weight job) es
 
 sum_two : (e : Entry) (es : List Entry) (os : List Opening) → sum_by (λ (o : Opening). written_by o.job (e ∷ es)) os ≡ sum_by (λ (o : Opening). weight o.job e) os + sum_by (λ (o : Opening). written_by o.job es) os
@@ -191,7 +191,7 @@ idle t t' n n' d d' = omega (arith, flag_either t t', flag_either d d')
 
 -- ---- how long the entries of an open job are
 
-short_ovn : (t : List ℕ) → IsOvn t → length t ≤ 128
+pub short_ovn : (t : List ℕ) → IsOvn t → length t ≤ 128
 short_ovn t h = let a = and_parts _ _ h in let b = and_parts _ _ a.0 in leb-true (length t) 128 b.1
 
 pub short_name : (t : List ℕ) → IsName t → length t ≤ 64
@@ -311,6 +311,19 @@ small_at_first = record { wishes = λ o h. absurd h; jobs = λ job u. record { b
 small_from : (before es : List Entry) → IsSmall before → MayAllFollow before es → IsSmall (before ++ es)
 small_from before [] s h = subst IsSmall (sym (append-nil before)) s
 small_from before (e ∷ es) s h = subst IsSmall (append_assoc before (e ∷ []) es) (small_from (before ++ e ∷ []) es (small_after before e s h.0) h.1)
+
+most_bytes : (t : Bool) (n : ℕ) (d : Bool) → n ≤ 16 → budget t n d ≤ 2230822
+most_bytes true n true h = omega (arith, h)
+most_bytes true n false h = omega (arith, h)
+most_bytes false n true h = omega (arith, h)
+most_bytes false n false h = omega (arith, h)
+
+-- what an open job of a legal book wrote after its opening
+pub open_job_wrote : (book : List Entry) (job : ℕ) → IsLegal book → is_closed job book ≡ false → written_by job book ≤ 2230822
+open_job_wrote book job h u =
+    let was = (small_from [] book small_at_first h).jobs job u in
+    let budgets = most_bytes (is_ticket_open job book) (length (trials_of job book)) (is_some (decision_of job book)) was.tries in
+    omega (arith, was.bytes, budgets)
 
 -- ---- a legal book fits
 

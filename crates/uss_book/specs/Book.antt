@@ -9,12 +9,14 @@ use Rattle.uss_law_book.specs.Legal.{MayFollow, IsLegal}
 use Rattle.uss_coding.specs.Coding.{coding_of}
 
 -- a book: its disk; its entries, the oldest first; where it is spent, its disk's count of faults when it last answered a fault, or
--- when it last read other records than its own; and the entry that it had tried to enter when it answered a fault, if it had tried one
+-- when it last read other records than its own; the entry that it had tried to enter when it answered a fault, if it had tried one;
+-- and the records of its journal, which are those of its entries while it isn't spent
 pub record BookView (D : Type 0) : Type 0 where
   pub disk : D
   pub entries : List Entry
   pub spent : Option ℕ
   pub tried : Option Entry
+  pub records : List (List ℕ)
 
 -- the records of a book
 abbrev pub records_of : List Entry → List (List ℕ)
@@ -35,6 +37,11 @@ new_book owner = Enters.Owner owner ∷ []
 -- what a mount finds in a file: the entries that it stands for, or a new book where it stands for none
 abbrev pub IsFound : Owner → List ℕ → List Entry → Type 0
 IsFound owner file entries = StandsForBook entries file ⊎ ((stands_for file ≡ Ok []) × (entries ≡ new_book owner))
+
+-- what a crash within a mount may leave: what could be left before it, what stands for the same as the file, or, where that stands for
+-- no record, the new book
+abbrev pub MountLeaves : (may_leave : List ℕ → Type 0) (owner : Owner) (file image : List ℕ) → Type 0
+MountLeaves may_leave owner file image = may_leave image ⊎ (stands_for image ≡ stands_for file) ⊎ ((stands_for file ≡ Ok []) × StandsForBook (new_book owner) image)
 
 -- the record with number n is the first that isn't the coding of an entry that may follow those before it
 pub record IsBadEntry (records : List (List ℕ)) (n : ℕ) : Type 0 where

@@ -1,11 +1,11 @@
 -- The answers of a book, each with its cause. This project's own.
-use Rattle.std.specs.Prelude.{◌≡◌, ℕ, List, [], ◌∷◌, ◌++◌, Some, None, Result, Ok, Err}
+use Rattle.std.specs.Prelude.{◌≡◌, ◌⊎◌, ℕ, List, [], ◌∷◌, ◌++◌, Some, None, Result, Ok, Err}
 use Rattle.uss_cause.specs.Cause.{Rose}
 use Rattle.uss_event.specs.declared.entries.Owner.{Owner}
 use Rattle.uss_event.specs.declared.entries.Entry.{Entry}
 use Rattle.uss_journal.specs.Format.{stands_for}
 use Rattle.uss_law_book.specs.Lists.{owner_of}
-use Rattle.uss_journal.specs.Journal.{JournalView}
+use Rattle.uss_journal.specs.Journal.{JournalView, mounted}
 use Rattle.uss_journal.specs.declared.refusal.JournalRefusal.{JournalRefusal}
 use Rattle.uss_journal.specs.declared.refusal.JournalRefusal.TheVariants as Journals
 use Rattle.uss_book.specs.declared.refusal.BookFault.{BookFault}
@@ -74,6 +74,27 @@ RefusedBy owner file DiskFault = Unit {0}
 RefusedBy owner file (Spent count) = Unit {0}
 RefusedBy owner file (Changed n) = Unit {0}
 RefusedBy owner file Memory = Unit {0}
+
+-- what a refused mount leaves of a file: the file. Where memory was wanting, a file of at most nine bytes may be a new, empty journal; a
+-- fault says nothing.
+abbrev pub IsLeft : (file after : List ℕ) (fault : BookFault) → Type 0
+IsLeft file after DiskFault = Unit {0}
+IsLeft file after Memory = (after ≡ file) ⊎ (after ≡ mounted file)
+IsLeft file after (NotAJournal place) = after ≡ file
+IsLeft file after (BadEntry n) = after ≡ file
+IsLeft file after (OtherOwner kept) = after ≡ file
+IsLeft file after (Spent count) = after ≡ file
+IsLeft file after (Changed n) = after ≡ file
+
+-- a fact that holds unless the refusal is a fault of the disk
+abbrev pub UnlessFault : BookFault → Type 0 → Type 0
+UnlessFault DiskFault P = Unit {0}
+UnlessFault Memory P = P
+UnlessFault (NotAJournal place) P = P
+UnlessFault (BadEntry n) P = P
+UnlessFault (OtherOwner kept) P = P
+UnlessFault (Spent count) P = P
+UnlessFault (Changed n) P = P
 
 -- the disk after a mount: the book's, or the one that was handed back
 abbrev pub disk_after : {D : Type 0} → Result (BookView D) (BookRefusal D) → D

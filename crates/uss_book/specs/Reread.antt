@@ -6,7 +6,7 @@ use Rattle.uss_event.specs.declared.entries.Entry.{Entry}
 use Rattle.uss_law_book.specs.Lists.{owner_of}
 use Rattle.uss_book.specs.declared.refusal.BookFault.{BookFault}
 use Rattle.uss_book.specs.declared.refusal.BookFault.TheVariants.{DiskFault, NotAJournal, Spent, BadEntry, OtherOwner, Changed, Memory}
-use Rattle.uss_book.specs.Book.{BookView, IsBadEntry, IsOtherOwner, IsChanged}
+use Rattle.uss_book.specs.Book.{BookView, IsBadEntry, IsOtherOwner, IsChanged, records_of}
 
 -- the list begins so
 pub record BeginsWith {X : Type 0} (list front : List X) : Type 0 where
@@ -37,20 +37,15 @@ RereadBy known records DiskFault = ⊥
 RereadBy known records (NotAJournal place) = ⊥
 RereadBy known records (Spent count) = ⊥
 
--- records that were read say why
-pub record RereadFor (known : List Entry) (fault : BookFault) : Type 0 where
-  pub records : List (List ℕ)
-  pub by : RereadBy known records fault
-
--- where 151, 152 and 154 come: by records that aren't those of a book that goes on from the known entries
-abbrev pub IsByRecords : (known : List Entry) (fault : BookFault) → Type 0
-IsByRecords known (BadEntry n) = RereadFor known (BadEntry n)
-IsByRecords known (OtherOwner kept) = RereadFor known (OtherOwner kept)
-IsByRecords known (Changed n) = RereadFor known (Changed n)
-IsByRecords known Memory = Unit {0}
-IsByRecords known DiskFault = Unit {0}
-IsByRecords known (NotAJournal place) = Unit {0}
-IsByRecords known (Spent count) = Unit {0}
+-- where 151, 152 and 154 come: by the records that were read, which aren't those of a book that goes on from the known entries
+abbrev pub IsByRecords : (known : List Entry) (records : List (List ℕ)) (fault : BookFault) → Type 0
+IsByRecords known records (BadEntry n) = IsBadEntry records n
+IsByRecords known records (OtherOwner kept) = IsOther known kept records
+IsByRecords known records (Changed n) = IsChanged known n records
+IsByRecords known records Memory = Unit {0}
+IsByRecords known records DiskFault = Unit {0}
+IsByRecords known records (NotAJournal place) = Unit {0}
+IsByRecords known records (Spent count) = Unit {0}
 
 -- by which count a book is spent after its journal refused to be mounted again
 abbrev pub after_refusal : BookFault → Option ℕ → ℕ → Option ℕ
@@ -67,9 +62,10 @@ abbrev pub apart : Option ℕ → ℕ → Option ℕ
 apart None faults = Some faults
 apart (Some count) faults = Some count
 
--- a book that was mounted again: it goes on from the entries that were known
+-- a book that was mounted again: its entries are those of the records that were read, and it goes on from the entries that were known
 pub record Remounted {D : Type 0} (old new : BookView D) : Type 0 where
   pub begins : BeginsWith new.entries old.entries
+  pub found : records_of new.entries ≡ new.records
   pub reopened : new.spent ≡ None
   pub settled : new.tried ≡ None
 

@@ -9,8 +9,8 @@ ghost use Rattle.uss_law_book.specs.Attempts.{held};
 ghost use Rattle.uss_law_book.specs.Coding.{HasCoding, journal_length};
 ghost use Rattle.uss_law_book.specs.Legal.{MayFollow, IsLegal};
 ghost use Rattle.uss_law_book.specs.Reserve.{need};
-ghost use Rattle.uss_book.specs.Book.{StandsForBook, BookWithOrWithout, IsFound, new_book, records_of};
-ghost use Rattle.uss_book.specs.Refusal.{Entered, EnterRefused, MountRefused, RefusedBy, SaysNothing, IsAnothers, disk_after};
+ghost use Rattle.uss_book.specs.Book.{StandsForBook, BookWithOrWithout, IsFound, MountLeaves, new_book, records_of};
+ghost use Rattle.uss_book.specs.Refusal.{Entered, EnterRefused, MountRefused, RefusedBy, SaysNothing, IsAnothers, IsLeft, UnlessFault, disk_after};
 ghost use Rattle.uss_book.specs.Reread.{Remounted, RemountRefused, IsByRecords};
 
 use crate::append::{Outcome, append, discard, keep_tried, prepare};
@@ -48,7 +48,7 @@ impl<D: Disk> Model for Book<D> {
 
     ghost Value = { BookView D };
 
-    ghost view = { λ b. record { disk = b.journal.disk; entries = b.kept.entries; spent = b.spent; tried = b.tried } };
+    ghost view = { λ b. record { disk = b.journal.disk; entries = b.kept.entries; spent = b.spent; tried = b.tried; records = b.journal.records } };
 
     ghost invariant = { λ b. IsWhole D.may_leave D.is_honest b.journal b.kept.entries b.spent b.tried b.used };
 }
@@ -118,6 +118,7 @@ fn begun<D: Disk>(
     requires unspent { journal.spent ≡ None }
     ensures refused { IfErr result (λ r. MountRefused (D.fault_count journal.disk) (D.fault_count r.back) r.refusal) }
     ensures free { IfErr result (λ r. SaysNothing r.refusal) }
+    ensures untouched { IfErr result (λ r. UnlessFault r.refusal (r.back ≡ journal.disk)) }
     ensures entries { IfOk result (λ b. b.entries ≡ new_book owner) }
     ensures legal { IfOk result (λ b. IsLegal b.entries) }
     ensures unspent { IfOk result (λ b. (b.spent ≡ None) × (b.tried ≡ None)) }
@@ -156,9 +157,12 @@ impl<D: Disk> Book<D> {
             (λ r. RefusedBy owner (bytes_of (D.reads disk)) r.refusal) }
         ensures durable { D.is_honest disk → IfOk result (λ b. (image : List ℕ) → D.may_leave b.disk image → StandsForBook b.entries image) }
 
-        // A crash at any moment of it leaves what it could have left before, or what stands for the same, or for the new book.
+        ensures untouched { D.is_honest disk → IfErr result (λ r. IsLeft (bytes_of (D.reads disk)) (bytes_of (D.reads r.back)) r.refusal) }
+
+        // A crash at any moment of it leaves what it could have left before, or what stands for the same; or, where that is no record,
+        // the new book.
         ensures crash { D.is_honest disk → CrashLeaves D.moment D.left_since
-            (λ image. D.may_leave disk image ⊎ (stands_for image ≡ stands_for (bytes_of (D.reads disk))) ⊎ StandsForBook (new_book owner) image) disk (disk_after result) }
+            (MountLeaves (D.may_leave disk) owner (bytes_of (D.reads disk))) disk (disk_after result) }
     {
         let (journal, kept) = match load(alloc, disk) {
             Ok(found) => found,
@@ -213,12 +217,13 @@ impl<D: Disk> Book<D> {
         }
     }
 
-    /// Mounts again what its own disk holds: its entries, or these with the one that was tried. A book that other records were read of
-    /// than its own is spent; after any other refusal it is as it was, but for its disk.
+    /// Mounts again what its own disk holds: its entries, or these with the one that was tried. After a refusal the entries stay. A
+    /// book is spent after a fault and after other records than its own were read, and may be so after want of memory; after 143 it is
+    /// as it was, but for its disk.
     pub fn remount(&mut self) -> Result<(), BookFault>
         ensures answer { MatchResult result (λ _. Remounted self.old self.new) (λ r. RemountRefused D.fault_count self.old r self.new) }
         // The records that were read are the cause of 151, 152 and 154; on an honest disk none of these comes.
-        ensures records { IfErr result (IsByRecords self.old.entries) }
+        ensures records { IfErr result (IsByRecords self.old.entries self.new.records) }
         ensures count { D.fault_count self.old.disk ≤ D.fault_count self.new.disk }
         ensures honest { D.is_honest self.new.disk ↔ D.is_honest self.old.disk }
 

@@ -4,6 +4,7 @@
 mod append;
 mod book;
 mod judge;
+mod laws;
 mod load;
 mod owner;
 mod readers;
@@ -15,5 +16,6 @@ mod tests;
 mod viewed;
 
 pub use book::Book;
+pub use laws::what_is_open_can_be_ended;
 pub use refusal::{BookFault, BookRefusal};
 pub use viewed::view;

@@ -2,10 +2,10 @@
 ghost use Rattle.std.specs.Prelude.{◌≡◌, ◌↔◌, ◌≤◌, ◌⊎◌, List, ℕ, None, IfOk, IfErr, MatchResult};
 ghost use Rattle.uss_disk.specs.Disk.{bytes_of, CrashLeaves};
 ghost use Rattle.uss_journal.specs.Format.{stands_for};
-ghost use Rattle.uss_journal.specs.Journal.{StandsFor};
+ghost use Rattle.uss_journal.specs.Journal.{StandsFor, mounted};
 ghost use Rattle.uss_law_book.specs.Legal.{IsLegal};
 ghost use Rattle.uss_book.specs.Book.{records_of, StandsForBook};
-ghost use Rattle.uss_book.specs.Refusal.{IsPassedOn, passed_on, MountRefused, ReadBy, disk_read};
+ghost use Rattle.uss_book.specs.Refusal.{IsPassedOn, passed_on, MountRefused, ReadBy, IsLeft, disk_read};
 
 use crate::judge::entries_of;
 use crate::{BookFault, BookRefusal};
@@ -41,6 +41,8 @@ pub(crate) fn load<D: Disk>(alloc: Global, disk: D) -> Result<(Journal<D>, Entri
         (λ x. StandsForBook x.1.entries (bytes_of (D.reads disk)))
         (λ r. ReadBy (bytes_of (D.reads disk)) r.refusal) }
     ensures durable { D.is_honest disk → IfOk result (λ x. (image : List ℕ) → D.may_leave x.0.disk image → StandsForBook x.1.entries image) }
+    ensures file { D.is_honest disk → IfOk result (λ x. bytes_of (D.reads x.0.disk) ≡ mounted (bytes_of (D.reads disk))) }
+    ensures untouched { D.is_honest disk → IfErr result (λ r. IsLeft (bytes_of (D.reads disk)) (bytes_of (D.reads r.back)) r.refusal) }
     ensures crash { D.is_honest disk → CrashLeaves D.moment D.left_since
         (λ image. D.may_leave disk image ⊎ (stands_for image ≡ stands_for (bytes_of (D.reads disk)))) disk (disk_read result) }
 {

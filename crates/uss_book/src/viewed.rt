@@ -3,7 +3,7 @@ ghost use Rattle.uss_disk.specs.Disk.{bytes_of, CrashLeaves};
 ghost use Rattle.uss_journal.specs.Format.{stands_for};
 ghost use Rattle.uss_law_book.specs.Legal.{IsLegal};
 ghost use Rattle.uss_book.specs.Book.{StandsForBook};
-ghost use Rattle.uss_book.specs.Refusal.{MountRefused, ReadBy, disk_viewed};
+ghost use Rattle.uss_book.specs.Refusal.{MountRefused, ReadBy, IsLeft, disk_viewed};
 
 use crate::BookRefusal;
 use crate::load::load;
@@ -24,6 +24,7 @@ pub fn view<D: Disk>(alloc: Global, disk: D) -> Result<(Entries, D), BookRefusal
     ensures found { D.is_honest disk → MatchResult result
         (λ x. StandsForBook x.0 (bytes_of (D.reads disk)))
         (λ r. ReadBy (bytes_of (D.reads disk)) r.refusal) }
+    ensures untouched { D.is_honest disk → IfErr result (λ r. IsLeft (bytes_of (D.reads disk)) (bytes_of (D.reads r.back)) r.refusal) }
     ensures crash { D.is_honest disk → CrashLeaves D.moment D.left_since
         (λ image. D.may_leave disk image ⊎ (stands_for image ≡ stands_for (bytes_of (D.reads disk)))) disk (disk_viewed result) }
 {

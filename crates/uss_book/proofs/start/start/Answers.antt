@@ -1,7 +1,9 @@
-use Rattle.std.proofs.Common.{◌∙◌, ap, ◌++◌, ◌∷◌, [], List}
+use Rattle.std.proofs.Common.{◌≡◌, ◌∙◌, ap, sym, subst, ◌++◌, ◌∷◌, [], List}
 use Rattle.uss_event.specs.declared.entries.Entry.{Entry}
 use Rattle.uss_coding.specs.Coding.{coding_of}
-use Rattle.uss_book.proofs.FirstEntry.{follows_none, first_legal, first_fits, append_passed, start_crash}
+use Rattle.uss_book.specs.Refusal.{UnlessFault}
+use Rattle.uss_book.specs.declared.refusal.BookFault.{BookFault}
+use Rattle.uss_book.proofs.FirstEntry.{follows_none, first_legal, first_fits, append_passed, append_untouched, start_crash}
 use Rattle.uss_book.proofs.start.start.Goals as goal
 
 pub passed_on-requires : goal.passed_on-requires
@@ -26,3 +28,8 @@ returns-in-Err-clause-crash g c = λ honest.
     let coded = c.as_slice.ensures.value ∙ c.in_ok-bytes.ensures ∙ ap coding_of c.first_entry-e.ensures.is in
     start_crash D.may_leave D.moment D.left_since c.args.journal.now.disk c.append.new.self.disk c.args.owner c.args.journal.now.records c.as_slice.result.now c.requires.unwritten coded
     (c.in-Err.ensures.crash honest c.requires.reopened)
+
+pub returns-in-Err-clause-untouched : goal.returns-in-Err-clause-untouched
+returns-in-Err-clause-untouched g c =
+    subst (λ (f : BookFault). UnlessFault f (c.append.new.self.disk ≡ c.args.journal.now.disk)) (sym c.passed_on.ensures)
+    (append_untouched g.D.Disk.fault_count c.args.journal.now c.as_slice.result.now c.in-Err.refusal c.append.new.self c.in-Err.ensures.answer)

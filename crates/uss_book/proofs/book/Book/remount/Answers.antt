@@ -79,7 +79,7 @@ returns-in-Err-reread-clause-found g c = λ honest.
 
 pub returns-in-Err-clause-records : goal.returns-in-Err-clause-records
 returns-in-Err-clause-records g c =
-    subst (IsByRecords c.args.self.now.entries) (sym c.passed_on-fault.ensures) (by_journal c.args.self.now.entries c.in-Err.refusal)
+    subst (IsByRecords c.args.self.now.entries c.remount.new.self.records) (sym c.passed_on-fault.ensures) (by_journal c.args.self.now.entries c.remount.new.self.records c.in-Err.refusal)
 
 pub returns-in-Err-reread-clause-records : goal.returns-in-Err-reread-clause-records
 returns-in-Err-reread-clause-records g c =

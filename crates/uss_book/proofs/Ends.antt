@@ -1,0 +1,100 @@
+-- What is due finds its room.
+use Rattle.std.proofs.Common.{ℕ, ◌+◌, ◌*◌, ◌≤◌, ◌==◌, Bool, true, false, cond, not, ◌&&◌, List, [], ◌∷◌, ◌++◌, ◌≡◌, filter, length, get_or, refl, ap, sym, ◌∙◌, arith, is_some}
+use Rattle.std.specs.Prelude.{◌↔◌, ℤ, All, sum_by}
+use Rattle.std.proofs.lemmas.List.Sums.{sum_by-cons, sum_by-le}
+use Rattle.uss_intent.specs.declared.records.Subscriber.{Subscriber}
+use Rattle.uss_event.specs.declared.asks.FlightAsk.{FlightAsk}
+use Rattle.uss_event.specs.declared.entries.Ending.{Ending}
+use Rattle.uss_event.specs.declared.entries.Ending.TheVariants.{Conflict, Stale, Cancelled, Ended}
+use Rattle.uss_event.specs.declared.entries.Entry.{Entry}
+use Rattle.uss_event.specs.declared.entries.Entry.TheVariants.{Opened, TicketOpen, Pending, Held, Deciding, Done, TicketGone, Sent}
+use Rattle.uss_event.specs.declared.entries.Entry.TheVariants as Enters
+use Rattle.uss_law_book.specs.Readings.{is_closed, is_ticket_open, decision_of, owed_at_end}
+use Rattle.uss_law_book.specs.Coding.{HasCoding, IsEnding, AreOwed, subscriber_length, owed_length, ending_length, record_length}
+use Rattle.uss_law_book.specs.Legal.{IsDue, IsLegal, is_owner}
+use Rattle.uss_law_book.specs.Reserve.{journal_limit, need, settled, reserved, ReserveCovers}
+use Rattle.uss_law_book.proofs.Kept.{open_parts}
+use Rattle.uss_coding_base.specs.TextLaws.{base_short}
+use Rattle.uss_entries.specs.Reserve.{for_ticket, taken, released, settled_by}
+use Rattle.uss_entries.specs.Tallies.{is_later_of, bytes_of}
+use Rattle.uss_entries.proofs.Needed.{need_grows}
+use Rattle.uss_entries.proofs.Settled.{settled_grows}
+use Rattle.uss_book.specs.Ends.{opens, EachGoesOn, EachOpens}
+use Rattle.uss_book.proofs.Room.{legal_covers, short_name, short_ovn, made_by, written_by, weight, open_job_wrote}
+
+later_is_made : (job : ℕ) (e : Entry) → is_later_of job e ≡ made_by job e
+later_is_made job (Enters.Owner owner) = refl
+later_is_made job (Opened j moment ask) = refl
+later_is_made job (TicketOpen j) = refl
+later_is_made job (Pending j tag alternative previous key) = refl
+later_is_made job (Held j tag ovn version owed) = refl
+later_is_made job (Deciding j end) = refl
+later_is_made job (Done j end) = refl
+later_is_made job (TicketGone j) = refl
+later_is_made job (Sent j place) = refl
+
+-- the bytes of a job's entries after its opening
+bytes_written : (job : ℕ) (es : List Entry) → sum_by record_length (filter (is_later_of job) es) ≡ written_by job es
+bytes_written job [] = refl
+bytes_written job (e ∷ es) = go (bytes_written job es) (is_later_of job e) refl
+  where
+    go : sum_by record_length (filter (is_later_of job) es) ≡ written_by job es → (b : Bool) → is_later_of job e ≡ b
+        → sum_by record_length (cond b (e ∷ filter (is_later_of job) es) (filter (is_later_of job) es)) ≡ written_by job (e ∷ es)
+    go rest false h =
+        let none : weight job e ≡ 0 = ap (λ (b : Bool). cond b (record_length e) 0) (sym (later_is_made job e) ∙ h) in
+        omega (arith, rest, none, sum_by-cons (weight job) e es)
+    go rest true h =
+        let all : weight job e ≡ record_length e = ap (λ (b : Bool). cond b (record_length e) 0) (sym (later_is_made job e) ∙ h) in
+        omega (arith, rest, all, sum_by-cons (weight job) e es, sum_by-cons record_length e (filter (is_later_of job) es))
+
+few_bytes_of : (book : List Entry) (job : ℕ) → IsLegal book → is_closed job book ≡ false → bytes_of job book ≤ 2230822
+unfolding bytes_of
+few_bytes_of book job h u = omega (arith, bytes_written job book, open_job_wrote book job h u)
+
+few_owed_bytes : (owed : List Subscriber) → AreOwed owed → owed_length owed ≤ 2686980
+few_owed_bytes owed h =
+    let each : sum_by subscriber_length owed ≤ length owed * 328 = sum_by-le subscriber_length 328 owed (λ k d l. omega (arith, base_short (get_or owed k d).base (h.1 k d l).base)) in
+    omega (arith, each, h.0)
+
+few_for_ticket : (b : Bool) → for_ticket b ≤ 64
+few_for_ticket true = omega arith
+few_for_ticket false = omega arith
+
+-- what an ending may take, with what it owes
+few_at_end : (end : Ending) → IsEnding end → ending_length end + 64 * length (owed_at_end end) ≤ 3211269
+few_at_end (Conflict flight manager rule) h = omega (arith, short_name manager h.1)
+few_at_end (Stale missing) h = omega (arith, h.0)
+few_at_end Cancelled h = omega arith
+few_at_end (Ended owed) h = omega (arith, few_owed_bytes owed h, h.0)
+
+-- what the entry takes is at most what it gives back
+balanced : (book : List Entry) (e : Entry) → IsLegal book → IsDue book e → HasCoding e → is_owner e ≡ false → opens e ≡ false → settled_by book e + taken book e ≤ released e
+balanced book (Enters.Owner owner) l d c n o = cc
+balanced book (Opened job moment ask) l d c n o = cc
+balanced book (TicketOpen job) l d c n o = omega arith
+balanced book (Pending job tag alternative previous key) l d c n o = omega arith
+balanced book (Held job tag ovn version owed) l d c n o =
+    let u = (open_parts book job d.unfinished).2 in
+    omega (arith, few_bytes_of book job l u, short_ovn ovn c.valid_ovn, few_owed_bytes owed c.valid_owed, c.valid_owed.0, few_for_ticket (is_ticket_open job book))
+balanced book (Deciding job end) l d c n o = omega arith
+balanced book (Done job end) l d c n o =
+    omega (arith, few_bytes_of book job l d.unclosed, few_at_end end c.1, few_for_ticket (is_ticket_open job book && not (is_some (decision_of job book))))
+balanced book (TicketGone job) l d c n o = omega arith
+balanced book (Sent job place) l d c n o = omega arith
+
+pub each_goes_on : EachGoesOn
+unfolding reserved
+each_goes_on book e l d c n o =
+    let covers = legal_covers book l in
+    let g = need_grows book e l d in
+    let s = settled_grows book e l d in
+    let b = balanced book e l d c n o in
+    omega (arith, covers, g, s, b)
+
+pub each_opens : EachOpens
+unfolding reserved
+each_opens book job moment ask l d =
+    let e : Entry = Opened job moment ask in
+    let g = need_grows book e l d in
+    let s = settled_grows book e l d in
+    (λ h. omega (arith, g, s, h), λ h. omega (arith, g, s, h))
