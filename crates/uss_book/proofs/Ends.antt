@@ -1,9 +1,8 @@
 -- What is due finds its room.
-use Rattle.std.proofs.Common.{ℕ, ◌+◌, ◌*◌, ◌≤◌, ◌==◌, Bool, true, false, cond, not, ◌&&◌, List, [], ◌∷◌, ◌++◌, ◌≡◌, filter, length, get_or, refl, ap, sym, ◌∙◌, arith, is_some}
-use Rattle.std.specs.Prelude.{◌↔◌, ℤ, All, sum_by}
+use Rattle.std.proofs.Common.{ℕ, ◌+◌, ◌*◌, ◌≤◌, Bool, true, false, cond, not, ◌&&◌, List, [], ◌∷◌, ◌≡◌, filter, length, get_or, refl, ap, sym, ◌∙◌, arith, is_some}
+use Rattle.std.specs.Prelude.{sum_by}
 use Rattle.std.proofs.lemmas.List.Sums.{sum_by-cons, sum_by-le}
 use Rattle.uss_intent.specs.declared.records.Subscriber.{Subscriber}
-use Rattle.uss_event.specs.declared.asks.FlightAsk.{FlightAsk}
 use Rattle.uss_event.specs.declared.entries.Ending.{Ending}
 use Rattle.uss_event.specs.declared.entries.Ending.TheVariants.{Conflict, Stale, Cancelled, Ended}
 use Rattle.uss_event.specs.declared.entries.Entry.{Entry}
@@ -12,7 +11,7 @@ use Rattle.uss_event.specs.declared.entries.Entry.TheVariants as Enters
 use Rattle.uss_law_book.specs.Readings.{is_closed, is_ticket_open, decision_of, owed_at_end}
 use Rattle.uss_law_book.specs.Coding.{HasCoding, IsEnding, AreOwed, subscriber_length, owed_length, ending_length, record_length}
 use Rattle.uss_law_book.specs.Legal.{IsDue, IsLegal, is_owner}
-use Rattle.uss_law_book.specs.Reserve.{journal_limit, need, settled, reserved, ReserveCovers}
+use Rattle.uss_law_book.specs.Reserve.{reserved}
 use Rattle.uss_law_book.proofs.Kept.{open_parts}
 use Rattle.uss_coding_base.specs.TextLaws.{base_short}
 use Rattle.uss_entries.specs.Reserve.{for_ticket, taken, released, settled_by}

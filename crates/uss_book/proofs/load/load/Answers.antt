@@ -1,8 +1,8 @@
-use Rattle.std.proofs.Common.{◌≡◌, sym, subst}
+use Rattle.std.proofs.Common.{sym, subst}
 use Rattle.uss_disk.specs.Disk.{bytes_of}
 use Rattle.uss_book.specs.Refusal.{IsLeft}
 use Rattle.uss_book.specs.declared.refusal.BookFault.{BookFault}
-use Rattle.uss_book.proofs.Mount.{journal_left, misread_left}
+use Rattle.uss_book.proofs.Mount.{journal_left}
 use Rattle.uss_book.proofs.load.load.Goals as goal
 
 pub returns-in-Err-clause-untouched : goal.returns-in-Err-clause-untouched
