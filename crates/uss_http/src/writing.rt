@@ -2,7 +2,7 @@ ghost use Rattle.std.specs.Prelude.{◌≡◌, ℕ, ◌≤◌, ◌++◌, List, l
 ghost use Rattle.std.specs.List.{flat_map};
 ghost use Rattle.uss_cause.specs.Cause.{Counts, Rose};
 ghost use Rattle.uss_link.specs.Bytes.{TookFront};
-ghost use Rattle.uss_link.specs.Talks.{Talk, SentFront};
+ghost use Rattle.uss_link.specs.Talks.{Talk, SentFront, Stays};
 ghost use Rattle.uss_http.specs.Writing.{request_text, phrase_of, rest_text, response_text};
 
 use crate::refusal::HttpRefusal;
@@ -42,7 +42,7 @@ fn request_bytes(alloc: Global, host: &[u8], request: &Request) -> Result<Vec<u8
     Ok(text)
 }
 
-/// Sends a request over the open stream of a dial. On a fault a front of its bytes was sent.
+/// Sends a request over the open stream of a dial, which stays open. On a fault a front of its bytes was sent.
 pub fn write_request<G: Dial>(
     alloc: Global,
     dial: &mut G,
@@ -51,6 +51,7 @@ pub fn write_request<G: Dial>(
 ) -> Result<(), HttpRefusal>
     ensures sent { (talks : List Talk) → G.talks dial.old ≡ Some talks → OnOk result (SentFront talks (G.talks dial.new) (request_text host.now request.now) (length (request_text host.now request.now))) }
     ensures front { (talks : List Talk) → G.talks dial.old ≡ Some talks → OnErr result ((n : ℕ) × SentFront talks (G.talks dial.new) (request_text host.now request.now) n) }
+    ensures stream { Stays (G.is_open dial.old) (G.is_open dial.new) }
     ensures kept { G.faults dial.old ≤ G.faults dial.new }
     ensures fault { result ≡ Err HttpRefusal.DialFault → Rose (G.faults dial.old) (G.faults dial.new) }
 {
