@@ -12,7 +12,7 @@ use Rattle.uss_http_base.specs.declared.fields.Framing.{Framing}
 use Rattle.uss_http_base.specs.declared.fields.Framing.TheVariants.{Nothing, Length, Chunked}
 use Rattle.uss_http_base.specs.declared.request.Request.{Request}
 use Rattle.uss_http_base.specs.Bodies.{IsBody}
-use Rattle.uss_http_base.specs.Fields.{body_limit, framing_of, framing_by, client_of, client_by}
+use Rattle.uss_http_base.specs.Fields.{body_limit, framing_of, framing_by, values_of, client_of, client_by}
 use Rattle.uss_http_base.specs.Pieces.{piece_limit}
 use Rattle.uss_http_base.specs.Requests.{IsRequest}
 use Rattle.uss_http.specs.Writing.{request_text}
@@ -179,6 +179,6 @@ readable bytes request is =
       method = subst IsToken (sym (is.method_is ∙ says.method_is)) valid.method;
       path = subst (λ (p : List ℕ). (0 < length p) × AllPass is_uri_byte p) (sym path) valid.target;
       path_text = subst IsUtf8 (sym path) valid.target_text;
-      client = subst IsName (sym is.client_is) (one_name _ is.head.client says.named);
+      client = subst IsName (sym is.client_is) (one_name (values_of (codes "uss-client") (map name_and_value tree.fields)) is.head.client says.named);
       body = body_within is.head.framing is.rest request.body is.has_body;
     }

@@ -4,7 +4,7 @@ use Rattle.std.specs.Prelude.{codes, decimal, map, option_map, nat_le, ◌&&◌,
 use Rattle.std.specs.List.{list_all}
 use Rattle.std.specs.Char.{is_ascii_digit, digit_value}
 use Rattle.std.specs.Str.Parse.{AllDigits, digits_value}
-use Rattle.std.proofs.lemmas.Bool.{cond-true, cond-false, and_parts, eq-eqb, ne_eqb, leb-true}
+use Rattle.std.proofs.lemmas.Bool.{cond-true, cond-false, and_parts, eq-eqb, ne_eqb, eqb-true, eqb-false, leb-true}
 use Rattle.std.proofs.lemmas.Bool.Decides.{Decides-below_and, nat_tests}
 use Rattle.std.proofs.lemmas.Fmt.{length-decimal-le}
 use Rattle.std.proofs.lemmas.Int.Digits.{digits_value-lt}
@@ -149,7 +149,8 @@ again_empty rest response is no_content =
     let parts = parts_of response is in
     let status = decimal response.status in
     let phrase = phrase_of response.status in
-    let text : response_text response ≡ status_text response.status ++ codes "\r\nConnection: close\r\n\r\n" = ap (λ (t : List ℕ). status_text response.status ++ t) (cond-true (response.status == 204) _ _ (eq-eqb response.status 204 no_content)) in
+    let behind : rest_text response ≡ codes "\r\nConnection: close\r\n\r\n" = cond-true (response.status == 204) _ _ (eq-eqb response.status 204 no_content) in
+    let text : response_text response ≡ status_text response.status ++ codes "\r\nConnection: close\r\n\r\n" = ap (λ (t : List ℕ). status_text response.status ++ t) behind in
     record {
       head = record { status = response.status; body = Framed Nothing };
       rest = rest;
@@ -177,7 +178,8 @@ again_full rest response is other =
     let n = length response.body in
     let small = is.body in
     let writes = decimal_writes n (omega arith) in
-    let text : response_text response ≡ status_text response.status ++ (codes "\r\nContent-Type: application/json\r\nContent-Length: " ++ decimal n ++ codes "\r\nConnection: close\r\n\r\n" ++ response.body) = ap (λ (t : List ℕ). status_text response.status ++ t) (cond-false (response.status == 204) _ _ (ne_eqb response.status 204 other)) in
+    let behind : rest_text response ≡ codes "\r\nContent-Type: application/json\r\nContent-Length: " ++ decimal n ++ codes "\r\nConnection: close\r\n\r\n" ++ response.body = cond-false (response.status == 204) _ _ (ne_eqb response.status 204 other) in
+    let text : response_text response ≡ status_text response.status ++ (codes "\r\nContent-Type: application/json\r\nContent-Length: " ++ decimal n ++ codes "\r\nConnection: close\r\n\r\n" ++ response.body) = ap (λ (t : List ℕ). status_text response.status ++ t) behind in
     record {
       head = record { status = response.status; body = Framed (Length n) };
       rest = response.body ++ rest;
@@ -198,8 +200,8 @@ again_full rest response is other =
     }
 
 by_status : (rest : List ℕ) (response : Response) (t : Bool) → (response.status == 204) ≡ t → IsWritable response → IsResponse (response_text response ++ rest) response
-by_status rest response true e is = again_empty rest response is (grind (arith, nat_tests))
-by_status rest response false e is = again_full rest response is (λ same. grind (arith, nat_tests))
+by_status rest response true e is = again_empty rest response is (eqb-true response.status 204 e)
+by_status rest response false e is = again_full rest response is (eqb-false response.status 204 e)
 
 pub response_again : (rest : List ℕ) (response : Response) → IsWritable response → IsResponse (response_text response ++ rest) response
 response_again rest response is = by_status rest response (response.status == 204) refl is

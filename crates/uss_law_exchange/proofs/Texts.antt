@@ -14,7 +14,6 @@ use Rattle.std.proofs.lemmas.List.Sums.{AllPass-from_list_all, list_all-from_All
 use Rattle.std.proofs.lemmas.Str.Parse.{IsNumeralModel, numerals_by_value, tells_digits, digit_from_value, digits_value_short}
 use Rattle.httparse.specs.Ascii.{crlf_bytes}
 use Rattle.httparse.specs.Grammar.{AllPass, is_token_byte, is_token, IsToken, is_value_byte, is_ows, skip_ows, trim_ows, crlf, Field, IsField, print_field, print_section}
-use Rattle.httparse.proofs.GrammarLemmas.{cons-append}
 use Rattle.httparse.proofs.TrimLemmas.{AllPass-reverse, trim_ows_space}
 use Rattle.uss_intent.specs.Texts.{is_name_byte, is_name, IsName}
 use Rattle.uss_http_base.specs.declared.fields.Framing.{Framing}
@@ -83,7 +82,7 @@ three_digits n low high =
     let small : n < 2 ^ 64 = omega arith in
     let d = decimal_is_IsNumeral n small in
     let most : length (decimal n) ≤ 3 = length-decimal-le 3 n (omega arith) (omega arith) small in
-    ⊎_elim {C = λ _. length (decimal n) ≡ 3}
+    ⊎_elim
     (λ few. absurd (let two : length (decimal n) ≤ 2 = omega arith in let s = digits_value_short own (decimal n) 2 d.0.1 two in let value = d.1 in omega arith))
     (λ many. omega arith)
     (cases_lt (length (decimal n)) 3)
@@ -126,8 +125,11 @@ field name value = record { name = name; raw = 32 ∷ value; end = crlf }
 pub is_field : (name value : List ℕ) → IsToken name → AllPass is_value_byte value → IsField (field name value)
 is_field name value is all = record { name = is; raw = All-cons (Passes is_value_byte) 32 value refl all }
 
+grouped : (a c s e x : List ℕ) → a ++ c ++ s ++ e ++ x ≡ a ++ (c ++ (s ++ e ++ x))
+grouped a c s e x = simp append_assoc
+
 front_of : (n v s e x : List ℕ) → n ++ 58 ∷ 32 ∷ v ++ crlf_bytes ++ s ++ e ++ x ≡ n ++ 58 ∷ 32 ∷ (v ++ 13 ∷ 10 ∷ (s ++ e ++ x))
-front_of n v s e x = simp (append_assoc, cons-append)
+front_of n v s e x = grouped (n ++ 58 ∷ 32 ∷ v) crlf_bytes s e x ∙ append_assoc n (58 ∷ 32 ∷ v) (13 ∷ 10 ∷ (s ++ e ++ x))
 
 -- the first field stands at the front of its section
 pub section_more : (name value : List ℕ) (fields : List Field) (x : List ℕ) → print_section (field name value ∷ fields) crlf ++ x ≡ name ++ 58 ∷ 32 ∷ (value ++ 13 ∷ 10 ∷ (print_section fields crlf ++ x))
