@@ -43,12 +43,12 @@ fields_text host client digits x =
     let by = field (codes "USS-Client") client ∷ typed in
     section_more (codes "Host") host by x
     ∙ ap (λ (t : List ℕ). codes "Host: " ++ (host ++ 13 ∷ 10 ∷ t)) (
-        section_more (codes "USS-Client") client typed x
-        ∙ ap (λ (t : List ℕ). codes "USS-Client: " ++ (client ++ 13 ∷ 10 ∷ t)) (
-            section_more (codes "Content-Type") (codes "application/json") long x
-            ∙ ap (λ (t : List ℕ). codes "Content-Type: application/json\r\n" ++ t) (
-                section_more (codes "Content-Length") digits last x
-                ∙ ap (λ (t : List ℕ). codes "Content-Length: " ++ (digits ++ 13 ∷ 10 ∷ t)) (section_more (codes "Connection") (codes "close") [] x))))
+    section_more (codes "USS-Client") client typed x
+    ∙ ap (λ (t : List ℕ). codes "USS-Client: " ++ (client ++ 13 ∷ 10 ∷ t)) (
+    section_more (codes "Content-Type") (codes "application/json") long x
+    ∙ ap (λ (t : List ℕ). codes "Content-Type: application/json\r\n" ++ t) (
+    section_more (codes "Content-Length") digits last x
+    ∙ ap (λ (t : List ℕ). codes "Content-Length: " ++ (digits ++ 13 ∷ 10 ∷ t)) (section_more (codes "Connection") (codes "close") [] x))))
 
 regroup : (a b c d e f g h i j k r : List ℕ) → a ++ b ++ c ++ d ++ e ++ f ++ g ++ h ++ i ++ j ++ k ++ r ≡ a ++ (b ++ (c ++ (d ++ (e ++ (f ++ (g ++ (h ++ (i ++ (j ++ (k ++ r))))))))))
 regroup a b c d e f g h i j k r = simp append_assoc

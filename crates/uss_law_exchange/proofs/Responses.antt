@@ -65,8 +65,8 @@ fields_text : (digits x : List ℕ) → print_section (with_body digits) crlf ++
 fields_text digits x =
     section_more (codes "Content-Type") (codes "application/json") (field (codes "Content-Length") digits ∷ closing) x
     ∙ ap (λ (t : List ℕ). codes "Content-Type: application/json\r\n" ++ t) (
-        section_more (codes "Content-Length") digits closing x
-        ∙ ap (λ (t : List ℕ). codes "Content-Length: " ++ (digits ++ 13 ∷ 10 ∷ t)) (section_more (codes "Connection") (codes "close") [] x))
+    section_more (codes "Content-Length") digits closing x
+    ∙ ap (λ (t : List ℕ). codes "Content-Length: " ++ (digits ++ 13 ∷ 10 ∷ t)) (section_more (codes "Connection") (codes "close") [] x))
 
 printed : (status phrase digits x : List ℕ) → print_response (response_head status phrase (with_body digits)) ++ x ≡ codes "HTTP/1.1 " ++ (status ++ (codes " " ++ (phrase ++ (codes "\r\nContent-Type: application/json\r\nContent-Length: " ++ (digits ++ (codes "\r\nConnection: close\r\n\r\n" ++ x))))))
 printed status phrase digits x =

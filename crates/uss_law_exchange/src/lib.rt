@@ -4,6 +4,4 @@
 
 mod laws;
 
-pub use laws::{
-    one_answer_of_a_read, requests_are_read_again, responses_are_read_again,
-};
+pub use laws::{one_answer_of_a_read, requests_are_read_again, responses_are_read_again};

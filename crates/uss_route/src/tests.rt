@@ -253,7 +253,10 @@ fn other_targets_are_refused(rt: HostRuntime) -> Result<(), Fail> {
 const WRITTEN: [(&str, &str); 4] = [
     ("AZaz09-._~AZaz09", "AZaz09-._~AZaz09"),
     ("2024-05/ovn?100%", "2024-05%2Fovn%3F100%25"),
-    ("!\"#$&'()*+,:;<=>", "%21%22%23%24%26%27%28%29%2A%2B%2C%3A%3B%3C%3D%3E"),
+    (
+        "!\"#$&'()*+,:;<=>",
+        "%21%22%23%24%26%27%28%29%2A%2B%2C%3A%3B%3C%3D%3E",
+    ),
     ("0123456789@[]^`{|}", "0123456789%40%5B%5D%5E%60%7B%7C%7D"),
 ];
 
@@ -278,10 +281,7 @@ fn is_read(alloc: Global, segment: &[u8], text: &str) -> bool {
 
 /// Whether the parameter is no OVN.
 fn is_no_ovn(alloc: Global, segment: &[u8]) -> bool {
-    matches!(
-        ovn_of_segment(alloc, segment),
-        Err(IntentRefusal::BadOvn)
-    )
+    matches!(ovn_of_segment(alloc, segment), Err(IntentRefusal::BadOvn))
 }
 
 /// Parameters that aren't an OVN: for a `%`, a byte, or how many there are.
