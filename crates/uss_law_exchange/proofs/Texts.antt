@@ -1,6 +1,6 @@
 -- Digits, names and phrases as values of fields, and the text of a section of fields.
-use Rattle.std.proofs.Common.{◌≡◌, ℕ, ◌+◌, ◌-◌, ◌^◌, ◌<◌, ◌≤◌, Bool, true, false, IsTrue, List, [], ◌∷◌, ◌++◌, length, take, reverse, All, Some, None, min, refl, sym, ap, ◌∙◌, subst, arith, ⊎_elim, append_assoc, append-nil, length-append, take_all}
-use Rattle.std.specs.Prelude.{codes, decimal, nat_lt, nat_le, ◌&&◌, map}
+use Rattle.std.proofs.Common.{◌≡◌, ℕ, ◌+◌, ◌^◌, ◌<◌, ◌≤◌, Bool, true, false, IsTrue, List, [], ◌∷◌, ◌++◌, length, take, reverse, Some, None, refl, sym, ap, ◌∙◌, arith, ⊎_elim, append_assoc, length-append, take_all}
+use Rattle.std.specs.Prelude.{decimal, nat_lt, nat_le, ◌&&◌}
 use Rattle.std.specs.List.{list_all, flat_map}
 use Rattle.std.specs.Int.{IsInRange}
 use Rattle.std.specs.Char.{is_ascii_digit}
@@ -9,15 +9,14 @@ use Rattle.std.proofs.lemmas.Bool.{cond-true, cond-false, and_from, and_parts, l
 use Rattle.std.proofs.lemmas.Bool.Decides.{nat_tests}
 use Rattle.std.proofs.lemmas.Fmt.{decimal_is_IsNumeral, length-decimal-le}
 use Rattle.std.proofs.lemmas.List.{take-append-le}
-use Rattle.std.proofs.lemmas.List.Elements.{All-nil, All-cons, All-head, All-tail, All-weaker}
+use Rattle.std.proofs.lemmas.List.Elements.{All-nil, All-cons, All-head, All-weaker}
 use Rattle.std.proofs.lemmas.List.Sums.{AllPass-from_list_all, list_all-from_AllPass}
 use Rattle.std.proofs.lemmas.Str.Parse.{IsNumeralModel, numerals_by_value, tells_digits, digit_from_value, digits_value_short}
 use Rattle.httparse.specs.Ascii.{crlf_bytes}
 use Rattle.httparse.specs.Grammar.{AllPass, is_token_byte, is_token, IsToken, is_value_byte, is_ows, skip_ows, trim_ows, crlf, Field, IsField, print_field, print_section}
 use Rattle.httparse.proofs.TrimLemmas.{AllPass-reverse, trim_ows_space}
 use Rattle.uss_intent.specs.Texts.{is_name_byte, is_name, IsName}
-use Rattle.uss_http_base.specs.declared.fields.Framing.{Framing}
-use Rattle.uss_http_base.specs.declared.fields.Framing.TheVariants.{Nothing, Length, Chunked}
+use Rattle.uss_http_base.specs.declared.fields.Framing.TheVariants.{Length}
 use Rattle.uss_http_base.specs.Fields.{body_limit, is_number, capped_number, framing_by, client_by}
 
 abbrev pub Passes : (ℕ → Bool) → ℕ → Type 0
