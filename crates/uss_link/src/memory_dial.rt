@@ -2,7 +2,7 @@ ghost use Rattle.std.specs.Prelude.{◌≡◌, ℕ, ◌≤◌, ◌++◌, [], ◌
 ghost use Rattle.std.specs.Option.{option_to_list, option_copied};
 ghost use Rattle.uss_cause.specs.Cause.{Counts, Rose};
 ghost use Rattle.uss_link.specs.Stores.{first_or};
-ghost use Rattle.uss_link.specs.Talks.{Talk, Reaches, Sends, Receives, fresh_talk, with_sent, with_received};
+ghost use Rattle.uss_link.specs.Talks.{Talk, Reaches, Sends, Receives, Opens, Speaks, Closes, fresh_talk, with_sent, with_received};
 
 use crate::dial::{Dial, DialFault};
 use std::alloc::{AllocError, Global};
@@ -286,9 +286,12 @@ impl Dial for MemoryDial {
 
     ghost talks = { λ s. Some s.talks };
 
+    ghost is_open = { λ s. Some s.is_open };
+
     fn reach(&mut self, host: &str, port: u16) -> Result<(), DialFault>
         ensures counts { Counts self.old.faults self.new.faults result }
         ensures opened { Reaches (Some self.old.talks) (Some self.new.talks) host.now port result }
+        ensures stream { Opens (Some self.old.is_open) (Some self.new.is_open) result }
         ensures reply { OnOk result ((self.new.left ≡ first_or [] self.old.replies) × (self.new.replies ≡ drop 1 self.old.replies)) }
     {
         if self.next_call_fails() {
