@@ -4,7 +4,10 @@
 
 mod laws;
 
-pub use laws::answers_are_read_again;
+pub use laws::{
+    answers_are_read_again, answers_that_were_read_are_read_again,
+    calls_that_were_read_are_read_again, events_that_were_read_are_read_again,
+};
 
 #[cfg(test)]
 mod hostile;
