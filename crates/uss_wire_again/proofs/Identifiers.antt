@@ -1,11 +1,12 @@
 -- An identifier that is read is a number of 128 bits.
-use Rattle.std.proofs.Common.{◌≡◌, ◌^◌, ◌*◌, ℕ, zero, suc, ◌+◌, ◌<◌, Bool, true, false, List, [], ◌∷◌, length, Some, None, refl, cc, arith}
+use Rattle.std.proofs.Common.{◌≡◌, ◌^◌, ◌*◌, ℕ, zero, suc, ◌+◌, ◌<◌, Bool, true, false, List, [], ◌∷◌, length, get_or, Some, None, refl, arith}
 use Rattle.std.specs.Prelude.{Option, ◌&&◌, ◌==◌, slice_index, bytes_eq, if◌then◌else◌}
-use Rattle.std.specs.List.{list_all, by_index}
+use Rattle.std.specs.List.{list_all}
 use Rattle.std.specs.Int.{from_be_bytes, w128}
 use Rattle.std.proofs.lemmas.Bool.{and_parts}
 use Rattle.std.proofs.lemmas.Bool.Decides.{nat_tests}
-use Rattle.uuid.specs.Text.{parsed, parsed_simple, parsed_hyphenated, parsed_braced, parsed_urn, digits_of, is_hex_digit, value_of, byte_of_digits}
+use Rattle.uuid.proofs.TextLemmas.{by_index_at}
+use Rattle.uuid.specs.Text.{by_index, parsed, parsed_simple, parsed_hyphenated, parsed_braced, parsed_urn, digits_of, is_hex_digit, value_of, byte_of_digits}
 use Rattle.uss_intent.specs.Identifiers.{identifier_of, identifier_from, identifier_text}
 
 sum_small : (b0 b1 b2 b3 b4 b5 b6 b7 b8 b9 b10 b11 b12 b13 b14 b15 : ℕ)
@@ -14,11 +15,15 @@ sum_small : (b0 b1 b2 b3 b4 b5 b6 b7 b8 b9 b10 b11 b12 b13 b14 b15 : ℕ)
     → b0 * 256 ^ 15 + b1 * 256 ^ 14 + b2 * 256 ^ 13 + b3 * 256 ^ 12 + b4 * 256 ^ 11 + b5 * 256 ^ 10 + b6 * 256 ^ 9 + b7 * 256 ^ 8 + b8 * 256 ^ 7 + b9 * 256 ^ 6 + b10 * 256 ^ 5 + b11 * 256 ^ 4 + b12 * 256 ^ 3 + b13 * 256 ^ 2 + b14 * 256 ^ 1 + b15 < 2 ^ 128
 sum_small b0 b1 b2 b3 b4 b5 b6 b7 b8 b9 b10 b11 b12 b13 b14 b15 h0 h1 h2 h3 h4 h5 h6 h7 h8 h9 h10 h11 h12 h13 h14 h15 = omega arith
 
-number_small : (f : ℕ → ℕ) → ((j : ℕ) → j < 16 → f j < 256) → from_be_bytes w128 (by_index 16 f) < 2 ^ 128
-number_small f h =
-    sum_small (f 0) (f 1) (f 2) (f 3) (f 4) (f 5) (f 6) (f 7) (f 8) (f 9) (f 10) (f 11) (f 12) (f 13) (f 14) (f 15)
+number_small : (bytes : List ℕ) → ((j : ℕ) → j < 16 → get_or bytes j 0 < 256) → from_be_bytes w128 bytes < 2 ^ 128
+number_small bytes h =
+    sum_small (get_or bytes 0 0) (get_or bytes 1 0) (get_or bytes 2 0) (get_or bytes 3 0) (get_or bytes 4 0) (get_or bytes 5 0) (get_or bytes 6 0) (get_or bytes 7 0)
+      (get_or bytes 8 0) (get_or bytes 9 0) (get_or bytes 10 0) (get_or bytes 11 0) (get_or bytes 12 0) (get_or bytes 13 0) (get_or bytes 14 0) (get_or bytes 15 0)
       (h 0 (omega arith)) (h 1 (omega arith)) (h 2 (omega arith)) (h 3 (omega arith)) (h 4 (omega arith)) (h 5 (omega arith)) (h 6 (omega arith)) (h 7 (omega arith))
       (h 8 (omega arith)) (h 9 (omega arith)) (h 10 (omega arith)) (h 11 (omega arith)) (h 12 (omega arith)) (h 13 (omega arith)) (h 14 (omega arith)) (h 15 (omega arith))
+
+indexed_small : (f : ℕ → ℕ) → ((j : ℕ) → j < 16 → f j < 256) → (j : ℕ) → j < 16 → get_or (by_index 16 f) j 0 < 256
+indexed_small f small j h = rw (by_index_at 16 f j 0 h) (small j h)
 
 value_small : (c : ℕ) → is_hex_digit c ≡ true → value_of c < 16
 value_small c h = grind (arith, nat_tests)
@@ -51,7 +56,7 @@ either_small false x y h k = k
 
 simple_small : (hex : List ℕ) → Small (parsed_simple hex)
 simple_small hex =
-    either_small ((length hex == 32) && list_all is_hex_digit hex) (Some (by_index 16 (byte_of_digits hex))) None (λ is. let both = and_parts (length hex == 32) (list_all is_hex_digit hex) is in number_small (byte_of_digits hex) (bytes_small hex (thirty_two (length hex) both.0) both.1)) tt
+    either_small ((length hex == 32) && list_all is_hex_digit hex) (Some (by_index 16 (byte_of_digits hex))) None (λ is. let both = and_parts (length hex == 32) (list_all is_hex_digit hex) is in number_small (by_index 16 (byte_of_digits hex)) (indexed_small (byte_of_digits hex) (bytes_small hex (thirty_two (length hex) both.0) both.1))) tt
 
 hyphenated_small : (text : List ℕ) → Small (parsed_hyphenated text)
 hyphenated_small text = either_small _ (parsed_simple (digits_of text)) None (λ is. simple_small (digits_of text)) tt

@@ -55,12 +55,20 @@ fn put_again(alloc: Global, text: &str) -> bool {
     }
 }
 
+/// Whether the call is a change of flight 1.
+fn is_change(ask: &DssAsk) -> bool {
+    match ask {
+        DssAsk::Put { flight, ovn, .. } => flight.number() == 1 && ovn.is_some(),
+        _ => false,
+    }
+}
+
 fn change_of(alloc: Global, text: &str) -> Result<bool, AllocError> {
     let ovn = Ovn::of(alloc, b"ovn-0000000000000002").map_err(|_| AllocError)?;
     let flight = FlightId::from_number(1);
     match read_put_reference(alloc, text.as_bytes(), flight, Some(ovn)) {
-        Ok(DssAsk::Put { flight, ovn, .. }) => Ok(flight.number() == 1 && ovn.is_some()),
-        _ => Ok(false),
+        Ok(ask) => Ok(is_change(&ask)),
+        Err(_) => Ok(false),
     }
 }
 
