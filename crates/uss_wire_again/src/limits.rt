@@ -91,10 +91,10 @@ fn long_lists_are_refused_before_their_items(rt: HostRuntime) -> Result<(), Fail
     assert!(rt; is_told(alloc, Kind::Put, KEY, "1", 1024, "403 key")?);
     assert!(rt; is_told(alloc, Kind::Put, KEY, "1", 1025, "406 key")?);
     let many = "406 operational_intent_references";
-    assert!(rt; is_told(alloc, Kind::Found, FOUND, "{@N}", 4096, "read")?);
+    assert!(rt; is_told(alloc, Kind::Found, FOUND, "{}", 4096, "402 id")?);
     assert!(rt; is_told(alloc, Kind::Found, FOUND, "1", 4097, many)?);
     let missing = "406 missing_operational_intents";
-    assert!(rt; is_told(alloc, Kind::Error, ERROR, "{@N}", 4096, "read")?);
+    assert!(rt; is_told(alloc, Kind::Error, ERROR, "{}", 4096, "402 id")?);
     assert!(rt; is_told(alloc, Kind::Error, ERROR, "1", 4097, missing)?);
     let told = "406 subscribers";
     assert!(rt; is_told(alloc, Kind::Change, CHANGE, "1", 8192, "403 subscribers")?);
