@@ -27,15 +27,13 @@ use Rattle.uss_wire_base.specs.Reading.{◌>>=◌, object_at, field, field_or, o
 use Rattle.uss_wire_base.specs.Writing.{AllOf}
 use Rattle.uss_wire_volume.specs.Volumes.{volume_at}
 use Rattle.uss_wire_intent.specs.Texts.{ovn_at, state_at, identifier_at}
-use Rattle.uss_wire_intent.specs.declared.references.Front.{Front}
-use Rattle.uss_wire_intent.specs.declared.references.Back.{Back}
 use Rattle.uss_wire_intent.specs.References.{front_at, back_at, joined, intent_reference_at}
 use Rattle.uss_wire_event.specs.Intents.{volumes_at, details_at, accepted, details_in, timed, intent_of, intent_at, details_answer_at, told_at, notification_at}
 use Rattle.uss_wire_event.specs.Asks.{proposal_at, put_at, wish_by, wish_at, asks_at, positions_at}
 use Rattle.uss_wire_event.specs.Writing.{ShowsOvn, IsReadable, IsReadableIfAny, IsReadableNote, IsReadableProposal, IsReadableWish}
 use Rattle.uss_wire_again.proofs.Yields.{Yields, after, behind, in_field, in_field_or, IfAny, in_optional, IsBelow, natural_small, in_list, in_one}
 use Rattle.uss_wire_again.proofs.Volumes.{volume_given}
-use Rattle.uss_wire_again.proofs.References.{IsFront, IsBack, front_given, back_given, ovn_given, IsIdentifier, identifier_given}
+use Rattle.uss_wire_again.proofs.References.{KeepsFront, KeepsBack, front_given, back_given, ovn_given, IsIdentifier, identifier_given}
 
 volumes_given : (m : Member) (d : Data) → Yields (AllOf IsVolume) (volumes_at m d)
 volumes_given m d = in_list IsVolume m volume_at (volume_given m) d
@@ -54,10 +52,10 @@ record IsShown (r : Reference) : Type 0 where
 shown_given : (place : Member) (d : Data) → Yields IsShown (intent_reference_at place d)
 unfolding intent_reference_at
 shown_given place d =
-    after IsFront IsShown (front_at place d) _ (front_given place d)
-      (λ (f : Front) front. after IsOvn IsShown (field Member.Ovn ovn_at d) _ (in_field IsOvn Member.Ovn ovn_at (ovn_given Member.Ovn) d)
-        (λ (o : List ℕ) ovn. after IsBack IsShown (back_at d) (λ b. Ok (joined f (Some o) b)) (back_given d)
-          (λ (b : Back) back. record { flight = front.flight; manager = front.manager; version = front.version; ovn = ovn; start = back.start; end = back.end; base = back.base; ticket = back.ticket })))
+    after (KeepsFront joined) IsShown (front_at place d) _ (front_given place d)
+      (λ f keeps. after IsOvn IsShown (field Member.Ovn ovn_at d) _ (in_field IsOvn Member.Ovn ovn_at (ovn_given Member.Ovn) d)
+        (λ (o : List ℕ) ovn. after (KeepsBack joined) IsShown (back_at d) _ (back_given d)
+          (λ b back. record { flight = (keeps (Some o) b).flight; manager = (keeps (Some o) b).manager; version = (keeps (Some o) b).version; ovn = ovn; start = (back f (Some o)).start; end = (back f (Some o)).end; base = (back f (Some o)).base; ticket = (back f (Some o)).ticket })))
 
 -- ---- details and intents
 record HasVolumes (d : Details) : Type 0 where
@@ -161,7 +159,7 @@ put_given d =
     behind IsReadableWish (field Member.To state_at d) _ (λ to. after (IsBelow (2 ^ 16)) IsReadableWish (field Member.Priority (natural_below (2 ^ 16)) d) _ (in_field (IsBelow (2 ^ 16)) Member.Priority (natural_below (2 ^ 16)) (natural_small (2 ^ 16) Member.Priority) d)
       (λ (priority : ℕ) low. after (IsBelow (2 ^ 8)) IsReadableWish (field Member.Rounds (natural_below (2 ^ 8)) d) _ (in_field (IsBelow (2 ^ 8)) Member.Rounds (natural_below (2 ^ 8)) (natural_small (2 ^ 8) Member.Rounds) d)
         (λ (rounds : ℕ) few. after (AllOf IsReadableProposal) IsReadableWish (field Member.Alternatives (list_at proposal_at) d) _ (in_field (AllOf IsReadableProposal) Member.Alternatives (list_at proposal_at) (in_list IsReadableProposal Member.Alternatives proposal_at (proposal_given Member.Alternatives)) d)
-          (λ (proposals : List Proposal) all. (low, (few, all))))))
+          (λ (proposals : List Proposal) all. (low, few, all)))))
 
 wish_with : (put end : Bool) (d : Data) → Yields IsReadableWish (if put then put_at d else if end then Ok End else Err (WrongKind Member.Wish))
 wish_with true end d = put_given d

@@ -1,5 +1,5 @@
 -- An identifier that is read is a number of 128 bits.
-use Rattle.std.proofs.Common.{◌≡◌, ◌^◌, ◌*◌, ℕ, zero, suc, ◌+◌, ◌<◌, Bool, true, false, List, [], ◌∷◌, length, get_or, Some, None, refl, arith}
+use Rattle.std.proofs.Common.{◌≡◌, ◌^◌, ◌*◌, ℕ, zero, suc, ◌+◌, ◌<◌, Bool, true, false, List, [], ◌∷◌, length, get_or, take, drop, Some, None, refl, arith}
 use Rattle.std.specs.Prelude.{Option, ◌&&◌, ◌==◌, slice_index, bytes_eq, if◌then◌else◌}
 use Rattle.std.specs.List.{list_all}
 use Rattle.std.specs.Int.{from_be_bytes, w128}
@@ -62,10 +62,10 @@ hyphenated_small : (text : List ℕ) → Small (parsed_hyphenated text)
 hyphenated_small text = either_small _ (parsed_simple (digits_of text)) None (λ is. simple_small (digits_of text)) tt
 
 braced_small : (text : List ℕ) → Small (parsed_braced text)
-braced_small text = either_small _ (parsed_hyphenated _) None (λ is. hyphenated_small _) tt
+braced_small text = either_small _ (parsed_hyphenated (take 36 (drop 1 text))) None (λ is. hyphenated_small (take 36 (drop 1 text))) tt
 
 urn_small : (text : List ℕ) → Small (parsed_urn text)
-urn_small text = either_small _ (parsed_hyphenated _) None (λ is. hyphenated_small _) tt
+urn_small text = either_small _ (parsed_hyphenated (drop 9 text)) None (λ is. hyphenated_small (drop 9 text)) tt
 
 parsed_small : (text : List ℕ) → Small (parsed text)
 parsed_small text =
@@ -75,10 +75,10 @@ parsed_small text =
 
 taken_small : (b : Bool) (n m : ℕ) → n < 2 ^ 128 → (if b then Some n else None) ≡ Some m → m < 2 ^ 128
 taken_small true n m h is = let same : n ≡ m = cc in rw same at h
-taken_small false n m h is = absurd (grind (arith, is))
+taken_small false n m h is = absurd cc
 
 from_small : (text : List ℕ) (p : Option (List ℕ)) (n : ℕ) → Small p → identifier_from text p ≡ Some n → n < 2 ^ 128
-from_small text None n h is = absurd (grind (arith, is))
+from_small text None n h is = absurd cc
 from_small text (Some bytes) n h is = taken_small (bytes_eq text (identifier_text (from_be_bytes w128 bytes))) (from_be_bytes w128 bytes) n h is
 
 pub identifier_small : (text : List ℕ) (n : ℕ) → identifier_of text ≡ Some n → n < 2 ^ 128

@@ -85,17 +85,16 @@ got_given client d =
     behind (IsReadable client) (object_at Member.Whole d) _ (λ u. in_field (IsReadable client) Member.OperationalIntentReference (answered_reference_at client) (reference_given client Member.OperationalIntentReference) d)
 
 -- a ticket of this client over this area, as a reader can give it
-pub record IsTicketOf (client : List ℕ) (area : Volume4D) (t : Ticket) : Type 0 where
+pub record IsTicketOf (client : List ℕ) (over : Volume4D) (t : Ticket) : Type 0 where
   pub readable : IsReadableTicket t
   pub manager : t.manager ≡ client
-  pub area : t.area ≡ area
+  pub area : t.area ≡ over
 
 shown_given : (client : List ℕ) (area : Volume4D) (place : Member) (d : Data) → IsVolume area → Yields (IsTicketOf client area) (ticket_at client area place d)
 unfolding ticket_at
 shown_given client area place d is =
-    let P = IsTicketOf client area in
-    behind P (object_at place d) _ (λ u. after IsIdentifier P (field Member.Id identifier_at d) _ (in_field IsIdentifier Member.Id identifier_at (identifier_given Member.Id) d)
-      (λ (number : ℕ) id. behind P (any_text_at Member.Version d) _ (λ v. behind P (field Member.NotificationIndex natural_at d) _ (λ index. behind P (field Member.TimeStart time_at d) _ (λ start. behind P (field Member.TimeEnd time_at d) _ (λ end. after IsBase P (field Member.UssBaseUrl base_at d) _ (in_field IsBase Member.UssBaseUrl base_at (base_given Member.UssBaseUrl) d)
+    behind (IsTicketOf client area) (object_at place d) _ (λ u. after IsIdentifier (IsTicketOf client area) (field Member.Id identifier_at d) _ (in_field IsIdentifier Member.Id identifier_at (identifier_given Member.Id) d)
+      (λ (number : ℕ) id. behind (IsTicketOf client area) (any_text_at Member.Version d) _ (λ v. behind (IsTicketOf client area) (field Member.NotificationIndex natural_at d) _ (λ index. behind (IsTicketOf client area) (field Member.TimeStart time_at d) _ (λ start. behind (IsTicketOf client area) (field Member.TimeEnd time_at d) _ (λ end. after IsBase (IsTicketOf client area) (field Member.UssBaseUrl base_at d) _ (in_field IsBase Member.UssBaseUrl base_at (base_given Member.UssBaseUrl) d)
         (λ (base : List ℕ) url. record { readable = record { id = id; start = in_time area.start is.start; end = in_time area.end is.end; base = url }; manager = refl; area = refl })))))))
 
 pub ticket_given : (client : List ℕ) (area : Volume4D) → IsVolume area → (d : Data) → Yields (IsTicketOf client area) (subscription_answer_at client area Member.Whole d)

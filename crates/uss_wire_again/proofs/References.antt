@@ -18,10 +18,7 @@ use Rattle.uss_wire_base.specs.Reading.{◌>>=◌, some_or, object_at, field, op
 use Rattle.uss_wire_base.specs.Writing.{AllOf}
 use Rattle.uss_wire_volume.specs.Volumes.{time_at}
 use Rattle.uss_wire_intent.specs.Texts.{name_of, base_of, ovn_of, name_at, base_at, ovn_at, state_at, identifier_at}
-use Rattle.uss_wire_intent.specs.declared.references.Front.{Front}
-use Rattle.uss_wire_intent.specs.declared.references.Back.{Back}
 use Rattle.uss_wire_intent.specs.References.{no_ovn, dropped_ovn, ovn_for, front_at, back_at, joined, answered_reference_at, references_at}
-use Rattle.uss_wire_answer.specs.declared.changes.Told.{Told}
 use Rattle.uss_wire_answer.specs.Answers.{flatten, told_at, told_by, subscriber_at, at_most_8192, subscribers_at}
 use Rattle.uss_wire_answer.specs.Writing.{ShowsOvn, IsReadable, IsReadableSubscriber}
 use Rattle.uss_wire_again.proofs.Identifiers.{identifier_small}
@@ -58,33 +55,42 @@ identifier_given m d =
     behind IsIdentifier (text_at m d) (λ text. some_or (WrongKind m) (identifier_of text)) (λ text. found IsIdentifier (WrongKind m) (identifier_of text) (identifier_small text))
 
 -- ---- references
-pub record IsFront (f : Front) : Type 0 where
-  pub flight : f.flight < 2 ^ 128
-  pub manager : IsName f.manager
-  pub version : f.version < 2 ^ 32
 
-pub front_given : (place : Member) (d : Data) → Yields IsFront (front_at place d)
+-- what the members before the OVN say of a reference, and those behind it
+pub record HasFront (r : Reference) : Type 0 where
+  pub flight : r.flight < 2 ^ 128
+  pub manager : IsName r.manager
+  pub version : r.version < 2 ^ 32
+
+pub record HasBack (r : Reference) : Type 0 where
+  pub start : is_instant r.start ≡ true
+  pub end : is_instant r.end ≡ true
+  pub base : IsBase r.base
+  pub ticket : r.ticket < 2 ^ 128
+
+-- whatever stands behind the front, and before the back
+abbrev pub KeepsFront : {F B : Type 0} → (F → Option (List ℕ) → B → Reference) → F → Type 0
+KeepsFront {F} {B} join f = (o : Option (List ℕ)) (b : B) → HasFront (join f o b)
+
+abbrev pub KeepsBack : {F B : Type 0} → (F → Option (List ℕ) → B → Reference) → B → Type 0
+KeepsBack {F} {B} join b = (f : F) (o : Option (List ℕ)) → HasBack (join f o b)
+
+pub front_given : (place : Member) (d : Data) → Yields (KeepsFront joined) (front_at place d)
 unfolding front_at
 front_given place d =
-    behind IsFront (object_at place d) _ (λ u. after IsIdentifier IsFront (field Member.Id identifier_at d) _ (in_field IsIdentifier Member.Id identifier_at (identifier_given Member.Id) d)
-      (λ (flight : ℕ) id. after IsName IsFront (field Member.Manager name_at d) _ (in_field IsName Member.Manager name_at (name_given Member.Manager) d)
-        (λ (manager : List ℕ) name. after (IsBelow (2 ^ 32)) IsFront (field Member.Version (natural_below (2 ^ 32)) d) _ (in_field (IsBelow (2 ^ 32)) Member.Version (natural_below (2 ^ 32)) (natural_small (2 ^ 32) Member.Version) d)
-          (λ (version : ℕ) small. behind IsFront (field Member.State state_at d) _ (λ state. record { flight = id; manager = name; version = small })))))
+    behind (KeepsFront joined) (object_at place d) _ (λ u. after IsIdentifier (KeepsFront joined) (field Member.Id identifier_at d) _ (in_field IsIdentifier Member.Id identifier_at (identifier_given Member.Id) d)
+      (λ (flight : ℕ) id. after IsName (KeepsFront joined) (field Member.Manager name_at d) _ (in_field IsName Member.Manager name_at (name_given Member.Manager) d)
+        (λ (manager : List ℕ) name. after (IsBelow (2 ^ 32)) (KeepsFront joined) (field Member.Version (natural_below (2 ^ 32)) d) _ (in_field (IsBelow (2 ^ 32)) Member.Version (natural_below (2 ^ 32)) (natural_small (2 ^ 32) Member.Version) d)
+          (λ (version : ℕ) small. behind (KeepsFront joined) (field Member.State state_at d) _ (λ state. λ o b. record { flight = id; manager = name; version = small })))))
 
-pub record IsBack (b : Back) : Type 0 where
-  pub start : is_instant b.start ≡ true
-  pub end : is_instant b.end ≡ true
-  pub base : IsBase b.base
-  pub ticket : b.ticket < 2 ^ 128
-
-pub back_given : (d : Data) → Yields IsBack (back_at d)
+pub back_given : (d : Data) → Yields (KeepsBack joined) (back_at d)
 unfolding back_at
 back_given d =
-    after IsInstant IsBack (field Member.TimeStart time_at d) _ (in_field IsInstant Member.TimeStart time_at (time_given Member.TimeStart) d)
-      (λ (first : ℤ) start. after IsInstant IsBack (field Member.TimeEnd time_at d) _ (in_field IsInstant Member.TimeEnd time_at (time_given Member.TimeEnd) d)
-        (λ (last : ℤ) end. after IsBase IsBack (field Member.UssBaseUrl base_at d) _ (in_field IsBase Member.UssBaseUrl base_at (base_given Member.UssBaseUrl) d)
-          (λ (url : List ℕ) base. after IsIdentifier IsBack (field Member.SubscriptionId identifier_at d) _ (in_field IsIdentifier Member.SubscriptionId identifier_at (identifier_given Member.SubscriptionId) d)
-            (λ (id : ℕ) ticket. record { start = start; end = end; base = base; ticket = ticket }))))
+    after IsInstant (KeepsBack joined) (field Member.TimeStart time_at d) _ (in_field IsInstant Member.TimeStart time_at (time_given Member.TimeStart) d)
+      (λ (first : ℤ) start. after IsInstant (KeepsBack joined) (field Member.TimeEnd time_at d) _ (in_field IsInstant Member.TimeEnd time_at (time_given Member.TimeEnd) d)
+        (λ (last : ℤ) end. after IsBase (KeepsBack joined) (field Member.UssBaseUrl base_at d) _ (in_field IsBase Member.UssBaseUrl base_at (base_given Member.UssBaseUrl) d)
+          (λ (url : List ℕ) base. after IsIdentifier (KeepsBack joined) (field Member.SubscriptionId identifier_at d) _ (in_field IsIdentifier Member.SubscriptionId identifier_at (identifier_given Member.SubscriptionId) d)
+            (λ (id : ℕ) ticket. λ f o. record { start = start; end = end; base = base; ticket = ticket }))))
 
 shown : (client manager : List ℕ) → bytes_eq manager client ≡ true → (o : Option (List ℕ)) → IfAny IsOvn o → ShowsOvn client manager o
 shown client manager own None h = tt
@@ -98,38 +104,42 @@ ovn_with client manager d false other = behind (ShowsOvn client manager) (option
 ovn_for_given : (client manager : List ℕ) (d : Data) → Yields (ShowsOvn client manager) (ovn_for client manager d)
 ovn_for_given client manager d = ovn_with client manager d (bytes_eq manager client) refl
 
+-- the OVN is one that this client is shown, whatever stands behind it
+abbrev ShownBy : {F B : Type 0} → (F → Option (List ℕ) → B → Reference) → List ℕ → F → Option (List ℕ) → Type 0
+ShownBy {F} {B} join client f o = (b : B) → ShowsOvn client (join f o b).manager o
+
 pub reference_given : (client : List ℕ) (place : Member) (d : Data) → Yields (IsReadable client) (answered_reference_at client place d)
 unfolding answered_reference_at
 reference_given client place d =
-    after IsFront (IsReadable client) (front_at place d) _ (front_given place d)
-      (λ (f : Front) front. after (ShowsOvn client f.manager) (IsReadable client) (ovn_for client f.manager d) _ (ovn_for_given client f.manager d)
-        (λ (o : Option (List ℕ)) ovn. after IsBack (IsReadable client) (back_at d) (λ b. Ok (joined f o b)) (back_given d)
-          (λ (b : Back) back. record { flight = front.flight; manager = front.manager; version = front.version; ovn = ovn; start = back.start; end = back.end; base = back.base; ticket = back.ticket })))
+    after (KeepsFront joined) (IsReadable client) (front_at place d) _ (front_given place d)
+      (λ f keeps. after (ShownBy joined client f) (IsReadable client) (ovn_for client f.manager d) _ (weaken (ShowsOvn client f.manager) (ShownBy joined client f) (ovn_for client f.manager d) (ovn_for_given client f.manager d) (λ o h b. h))
+        (λ (o : Option (List ℕ)) ovn. after (KeepsBack joined) (IsReadable client) (back_at d) _ (back_given d)
+          (λ b back. record { flight = (keeps o b).flight; manager = (keeps o b).manager; version = (keeps o b).version; ovn = ovn b; start = (back f o).start; end = (back f o).end; base = (back f o).base; ticket = (back f o).ticket })))
 
 pub references_given : (client : List ℕ) (m : Member) (d : Data) → Yields (FewOf (IsReadable client) 4096) (references_at client m d)
 unfolding references_at
 references_given client m d = in_few (IsReadable client) 4096 m (answered_reference_at client) (reference_given client m) d
 
 -- ---- those that are to be told
-abbrev IsTold : Told → Type 0
-IsTold t = t.ticket < 2 ^ 128
+abbrev Tells : {T : Type 0} → (List ℕ → T → Subscriber) → T → Type 0
+Tells by t = (base : List ℕ) → IsBase base → IsReadableSubscriber (by base t)
 
-told_given : (place : Member) (d : Data) → Yields IsTold (told_at place d)
+told_given : (place : Member) (d : Data) → Yields (Tells told_by) (told_at place d)
 unfolding told_at
 told_given place d =
-    behind IsTold (object_at place d) _ (λ u. after IsIdentifier IsTold (field Member.SubscriptionId identifier_at d) _ (in_field IsIdentifier Member.SubscriptionId identifier_at (identifier_given Member.SubscriptionId) d)
-      (λ (id : ℕ) ticket. behind IsTold (field Member.NotificationIndex natural_at d) _ (λ index. ticket)))
+    behind (Tells told_by) (object_at place d) _ (λ u. after IsIdentifier (Tells told_by) (field Member.SubscriptionId identifier_at d) _ (in_field IsIdentifier Member.SubscriptionId identifier_at (identifier_given Member.SubscriptionId) d)
+      (λ (id : ℕ) ticket. behind (Tells told_by) (field Member.NotificationIndex natural_at d) _ (λ index. λ base url. record { base = url; ticket = ticket })))
 
-all_told : (base : List ℕ) → IsBase base → (ts : List Told) → AllOf IsTold ts → AllOf IsReadableSubscriber (map (told_by base) ts)
-all_told base url [] all = tt
-all_told base url (t ∷ ts) all = (record { base = url; ticket = all.0 }, all_told base url ts all.1)
+all_told : {T : Type 0} (by : List ℕ → T → Subscriber) (base : List ℕ) → IsBase base → (ts : List T) → AllOf (Tells by) ts → AllOf IsReadableSubscriber (map (by base) ts)
+all_told by base url [] all = tt
+all_told by base url (t ∷ ts) all = (all.0 base url, all_told by base url ts all.1)
 
 subscriber_given : (place : Member) (d : Data) → Yields (AllOf IsReadableSubscriber) (subscriber_at place d)
 unfolding subscriber_at
 subscriber_given place d =
-    behind (AllOf IsReadableSubscriber) (object_at place d) _ (λ u. after (AllOf IsTold) (AllOf IsReadableSubscriber) (field Member.Subscriptions (list_at told_at) d) _ (in_field (AllOf IsTold) Member.Subscriptions (list_at told_at) (in_list IsTold Member.Subscriptions told_at (told_given Member.Subscriptions)) d)
-      (λ (ts : List Told) all. after IsBase (AllOf IsReadableSubscriber) (field Member.UssBaseUrl base_at d) (λ base. Ok (map (told_by base) ts)) (in_field IsBase Member.UssBaseUrl base_at (base_given Member.UssBaseUrl) d)
-        (λ (base : List ℕ) url. all_told base url ts all)))
+    behind (AllOf IsReadableSubscriber) (object_at place d) _ (λ u. after (AllOf (Tells told_by)) (AllOf IsReadableSubscriber) (field Member.Subscriptions (list_at told_at) d) _ (in_field (AllOf (Tells told_by)) Member.Subscriptions (list_at told_at) (in_list (Tells told_by) Member.Subscriptions told_at (told_given Member.Subscriptions)) d)
+      (λ ts all. after IsBase (AllOf IsReadableSubscriber) (field Member.UssBaseUrl base_at d) _ (in_field IsBase Member.UssBaseUrl base_at (base_given Member.UssBaseUrl) d)
+        (λ (base : List ℕ) url. all_told told_by base url ts all)))
 
 both_lists : (P : Subscriber → Type 0) (xs ys : List Subscriber) → AllOf P xs → AllOf P ys → AllOf P (xs ++ ys)
 both_lists P [] ys h k = k

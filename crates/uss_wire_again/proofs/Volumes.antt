@@ -14,14 +14,12 @@ use Rattle.uss_wire_base.specs.declared.refusal.Member.{Member}
 use Rattle.uss_wire_base.specs.declared.refusal.Member.TheVariants as Member
 use Rattle.uss_wire_base.specs.declared.refusal.WireRefusal.{WireRefusal}
 use Rattle.uss_wire_base.specs.declared.refusal.WireRefusal.TheVariants.{TooFewVertices, TooManyVertices, LowAboveHigh, StartAfterEnd, AltitudeRange, TimeRange}
-use Rattle.uss_wire_base.specs.declared.instants.Civil.{Civil}
 use Rattle.uss_wire_base.specs.declared.instants.InstantRefusal.{InstantRefusal}
 use Rattle.uss_wire_base.specs.declared.instants.InstantRefusal.TheVariants as Instant
 use Rattle.uss_wire_base.specs.Instants.{is_instant, is_civil, moment_of, in_range, instant_of}
 use Rattle.uss_wire_base.specs.InstantText.{read_instant, civil_at}
 use Rattle.uss_wire_base.specs.Moments.{moment_at, instant_at}
 use Rattle.uss_wire_base.specs.Reading.{◌>>=◌, object_at, without, field, integer_at, text_at, word_at, list_at}
-use Rattle.uss_wire_volume.specs.declared.reading.Space.{Space}
 use Rattle.uss_wire_volume.specs.Volumes.{vertex_at, is_in_plane, unless_out, outline_of, polygon_at, altitude_at, time_at, space_at, is_altitude, is_moment, volume_of, volume_at}
 use Rattle.uss_wire_again.proofs.Yields.{Yields, weaken, after, behind, tested, in_field}
 
@@ -29,16 +27,13 @@ use Rattle.uss_wire_again.proofs.Yields.{Yields, weaken, after, behind, tested, 
 abbrev pub IsInstant : ℤ → Type 0
 IsInstant z = is_instant z ≡ true
 
-civil_instant : (b : Bool) (c : Civil) → Yields IsInstant (if b then in_range (moment_of c) else Err Instant.BadTime)
-civil_instant true c = tested IsInstant (is_instant (moment_of c)) (moment_of c) Instant.TimeRange (λ is. is)
-civil_instant false c = tt
-
-civil_given : (c : Civil) → Yields IsInstant (instant_of c)
-unfolding instant_of
-civil_given c = civil_instant (is_civil c) c
+ranged : (b : Bool) (z : ℤ) → Yields IsInstant (if b then in_range z else Err Instant.BadTime)
+ranged true z = tested IsInstant (is_instant z) z Instant.TimeRange (λ is. is)
+ranged false z = tt
 
 text_given : (text : List ℕ) → Yields IsInstant (read_instant text)
-text_given text = behind IsInstant (civil_at text) instant_of civil_given
+unfolding instant_of
+text_given text = behind IsInstant (civil_at text) instant_of (λ c. ranged (is_civil c) (moment_of c))
 
 moment_given : (m : Member) (r : Result ℤ InstantRefusal) → Yields IsInstant r → Yields IsInstant (moment_at m r)
 moment_given m (Ok z) h = h
@@ -57,11 +52,18 @@ time_given m d =
 abbrev is_out : Place → Bool
 is_out p = not (is_in_plane p)
 
+passed : (b : Bool) → not b ≡ false → b ≡ true
+passed true h = refl
+passed false h = absurd cc
+
+in_plane_from : (p : Place) → is_in_plane p ≡ true → InPlane p
+in_plane_from p h = grind (arith, ints)
+
 in_plane : (p : Place) → is_out p ≡ false → InPlane p
-in_plane p h = grind (arith, ints)
+in_plane p h = in_plane_from p (passed (is_in_plane p) h)
 
 out_first : {A : Type 0} (b : Bool) (x : A) (o : Option A) → cond b (Some x) o ≡ None → (b ≡ false) × (o ≡ None)
-out_first true x o h = absurd (grind (arith, h))
+out_first true x o h = absurd cc
 out_first false x o h = (refl, h)
 
 all_in : (k : ℕ) (vs : List Place) → position_from is_out k vs ≡ None → All InPlane vs
@@ -89,21 +91,13 @@ unfolding polygon_at
 polygon_given m d = behind IsOutline (object_at m d) _ (λ u. behind IsOutline (field Member.Vertices (list_at vertex_at) d) outline_of outline_given)
 
 -- ---- volumes
-abbrev HasOutline : Space → Type 0
-HasOutline s = IsOutline s.outline
 
-space_given : (m : Member) (d : Data) → Yields HasOutline (space_at m d)
-unfolding space_at
-space_given m d =
-    behind HasOutline (object_at m d) _ (λ u. behind HasOutline (without Member.OutlineCircle d) _ (λ v. after IsOutline HasOutline (field Member.OutlinePolygon polygon_at d) _ (in_field IsOutline Member.OutlinePolygon polygon_at (polygon_given Member.OutlinePolygon) d)
-      (λ (outline : List Place) is. behind HasOutline (field Member.AltitudeLower altitude_at d) _ (λ low. behind HasOutline (field Member.AltitudeUpper altitude_at d) _ (λ high. is)))))
+-- what the parts make with any times is a volume, if it is anything
+abbrev Makes : {S : Type 0} → (S → ℤ → ℤ → Result Volume4D WireRefusal) → S → Type 0
+Makes make s = (start end : ℤ) → Yields IsVolume (make s start end)
 
 ordered : (a b : ℤ) → int_lt b a ≡ false → a ≤ℤ b
 ordered a b h = grind (arith, ints)
-
-passed : (b : Bool) → not b ≡ false → b ≡ true
-passed true h = refl
-passed false h = absurd (grind (arith, h))
 
 altitudes_from : (a b : ℤ) → (is_altitude a && is_altitude b) ≡ true → InAltitude a × InAltitude b
 altitudes_from a b h = grind (arith, ints)
@@ -111,26 +105,29 @@ altitudes_from a b h = grind (arith, ints)
 moments_from : (a b : ℤ) → (is_moment a && is_moment b) ≡ true → InTime a × InTime b
 moments_from a b h = grind (arith, ints)
 
-abbrev volume_in : Space → ℤ → ℤ → Volume4D
-volume_in s start end = record { outline = s.outline; low = s.low; high = s.high; start = start; end = end }
+volume_with : (v : Volume4D) (a b c e : Bool) → int_lt v.high v.low ≡ a → int_lt v.end v.start ≡ b → not (is_altitude v.low && is_altitude v.high) ≡ c → not (is_moment v.start && is_moment v.end) ≡ e → IsOutline v.outline → Yields IsVolume (if a then Err LowAboveHigh else (if b then Err StartAfterEnd else (if c then Err AltitudeRange else (if e then Err TimeRange else Ok v))))
+volume_with v true b c e low times heights moments outline = tt
+volume_with v false true c e low times heights moments outline = tt
+volume_with v false false true e low times heights moments outline = tt
+volume_with v false false false true low times heights moments outline = tt
+volume_with v false false false false low times heights moments outline =
+    let inside = altitudes_from v.low v.high (passed (is_altitude v.low && is_altitude v.high) heights) in
+    let within = moments_from v.start v.end (passed (is_moment v.start && is_moment v.end) moments) in
+    record { outline = outline; altitudes = ordered v.low v.high low; times = ordered v.start v.end times; low = inside.0; high = inside.1; start = within.0; end = within.1 }
 
-volume_with : (s : Space) (start end : ℤ) (a b c e : Bool) → int_lt s.high s.low ≡ a → int_lt end start ≡ b → not (is_altitude s.low && is_altitude s.high) ≡ c → not (is_moment start && is_moment end) ≡ e → HasOutline s → Yields IsVolume (if a then Err LowAboveHigh else (if b then Err StartAfterEnd else (if c then Err AltitudeRange else (if e then Err TimeRange else Ok (volume_in s start end)))))
-volume_with s start end true b c e low times heights moments outline = tt
-volume_with s start end false true c e low times heights moments outline = tt
-volume_with s start end false false true e low times heights moments outline = tt
-volume_with s start end false false false true low times heights moments outline = tt
-volume_with s start end false false false false low times heights moments outline =
-    let inside = altitudes_from s.low s.high (passed (is_altitude s.low && is_altitude s.high) heights) in
-    let within = moments_from start end (passed (is_moment start && is_moment end) moments) in
-    record { outline = outline; altitudes = ordered s.low s.high low; times = ordered start end times; low = inside.0; high = inside.1; start = within.0; end = within.1 }
-
-made_given : (s : Space) (start end : ℤ) → HasOutline s → Yields IsVolume (volume_of s start end)
+made_given : (v : Volume4D) → IsOutline v.outline → Yields IsVolume (volume_of (record { outline = v.outline; low = v.low; high = v.high }) v.start v.end)
 unfolding volume_of
-made_given s start end outline =
-    volume_with s start end (int_lt s.high s.low) (int_lt end start) (not (is_altitude s.low && is_altitude s.high)) (not (is_moment start && is_moment end)) refl refl refl refl outline
+made_given v outline =
+    volume_with v (int_lt v.high v.low) (int_lt v.end v.start) (not (is_altitude v.low && is_altitude v.high)) (not (is_moment v.start && is_moment v.end)) refl refl refl refl outline
+
+space_given : (m : Member) (d : Data) → Yields (Makes volume_of) (space_at m d)
+unfolding space_at
+space_given m d =
+    behind (Makes volume_of) (object_at m d) _ (λ u. behind (Makes volume_of) (without Member.OutlineCircle d) _ (λ v. after IsOutline (Makes volume_of) (field Member.OutlinePolygon polygon_at d) _ (in_field IsOutline Member.OutlinePolygon polygon_at (polygon_given Member.OutlinePolygon) d)
+      (λ (outline : List Place) is. behind (Makes volume_of) (field Member.AltitudeLower altitude_at d) _ (λ (low : ℤ). behind (Makes volume_of) (field Member.AltitudeUpper altitude_at d) _ (λ (high : ℤ). λ (start end : ℤ). made_given (record { outline = outline; low = low; high = high; start = start; end = end }) is)))))
 
 pub volume_given : (m : Member) (d : Data) → Yields IsVolume (volume_at m d)
 unfolding volume_at
 volume_given m d =
-    behind IsVolume (object_at m d) _ (λ u. after HasOutline IsVolume (field Member.Volume space_at d) _ (in_field HasOutline Member.Volume space_at (space_given Member.Volume) d)
-      (λ (s : Space) outline. behind IsVolume (field Member.TimeStart time_at d) _ (λ start. behind IsVolume (field Member.TimeEnd time_at d) (λ end. volume_of s start end) (λ end. made_given s start end outline))))
+    behind IsVolume (object_at m d) _ (λ u. after (Makes volume_of) IsVolume (field Member.Volume space_at d) _ (in_field (Makes volume_of) Member.Volume space_at (space_given Member.Volume) d)
+      (λ s makes. behind IsVolume (field Member.TimeStart time_at d) _ (λ (start : ℤ). behind IsVolume (field Member.TimeEnd time_at d) _ (λ (end : ℤ). makes start end))))
