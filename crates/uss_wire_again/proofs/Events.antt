@@ -1,16 +1,15 @@
 -- What a reader gives of intents, notifications and requests is readable.
-use Rattle.std.proofs.Common.{◌≡◌, ◌^◌, ℕ, ◌<◌, Bool, true, false, not, List, [], Some, None, Ok, Err, Result, ℤ, refl, sym, ◌∙◌, arith}
+use Rattle.std.proofs.Common.{◌≡◌, ◌^◌, ℕ, ◌<◌, Bool, true, false, not, List, [], Some, None, Ok, Err, refl, sym, ◌∙◌}
 use Rattle.std.specs.Prelude.{Option, is_some, is_none, bytes_eq, codes, if◌then◌else◌}
 use Rattle.serde_json.specs.Data.{Data}
 use Rattle.uss_vol4.specs.Volume.{Volume4D, IsVolume}
 use Rattle.uss_intent.specs.Texts.{IsName, IsBase, IsOvn}
 use Rattle.uss_intent.specs.declared.records.State.{State}
 use Rattle.uss_intent.specs.declared.records.Reference.{Reference}
-use Rattle.uss_event.specs.declared.calls.Note.{Note}
 use Rattle.uss_event.specs.declared.details.Details.{Details}
 use Rattle.uss_event.specs.declared.details.Proposal.{Proposal}
 use Rattle.uss_event.specs.declared.asks.Wish.{Wish}
-use Rattle.uss_event.specs.declared.asks.Wish.TheVariants.{Put, End}
+use Rattle.uss_event.specs.declared.asks.Wish.TheVariants.{End}
 use Rattle.uss_event.specs.declared.asks.FlightAsk.{FlightAsk}
 use Rattle.uss_event.specs.declared.asks.PositionAsk.{PositionAsk}
 use Rattle.uss_event.specs.declared.refusals.DetailsRefusal.{DetailsRefusal}
@@ -19,8 +18,6 @@ use Rattle.uss_event.specs.Pairs.{OperationalIntent, is_pair}
 use Rattle.uss_event.specs.Refusals.{refusal_of, unless_refused}
 use Rattle.uss_event.proofs.Accepted.{plan_unless_refused}
 use Rattle.uss_wire_base.specs.declared.refusal.Member.{Member}
-use Rattle.uss_wire_base.specs.declared.refusal.Member.TheVariants as Member
-use Rattle.uss_wire_base.specs.declared.refusal.WireRefusal.{WireRefusal}
 use Rattle.uss_wire_base.specs.declared.refusal.WireRefusal.TheVariants.{WrongKind}
 use Rattle.uss_wire_base.specs.Instants.{is_instant}
 use Rattle.uss_wire_base.specs.Reading.{◌>>=◌, object_at, field, field_or, optional, integer_at, natural_at, natural_below, text_at, list_at, one_at}
@@ -28,7 +25,7 @@ use Rattle.uss_wire_base.specs.Writing.{AllOf}
 use Rattle.uss_wire_volume.specs.Volumes.{volume_at}
 use Rattle.uss_wire_intent.specs.Texts.{ovn_at, state_at, identifier_at}
 use Rattle.uss_wire_intent.specs.References.{front_at, back_at, joined, intent_reference_at}
-use Rattle.uss_wire_event.specs.Intents.{volumes_at, details_at, accepted, details_in, timed, intent_of, intent_at, details_answer_at, told_at, notification_at}
+use Rattle.uss_wire_event.specs.Intents.{volumes_at, details_at, accepted, timed, intent_of, intent_at, details_answer_at, told_at, notification_at}
 use Rattle.uss_wire_event.specs.Asks.{proposal_at, put_at, wish_by, wish_at, asks_at, positions_at}
 use Rattle.uss_wire_event.specs.Writing.{ShowsOvn, IsReadable, IsReadableIfAny, IsReadableNote, IsReadableProposal, IsReadableWish}
 use Rattle.uss_wire_again.proofs.Yields.{Yields, after, behind, in_field, in_field_or, IfAny, in_optional, IsBelow, natural_small, in_list, in_one}

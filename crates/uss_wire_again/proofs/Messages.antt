@@ -1,28 +1,23 @@
 -- What a reader gives of calls and answers of the discovery service is readable, and is read again when it is written.
-use Rattle.std.proofs.Common.{◌≡◌, ◌≢◌, ◌^◌, ℕ, ◌<◌, ◌≤◌, Bool, true, false, List, [], length, Some, None, Ok, Err, Result, ℤ, refl, sym, ◌∙◌, arith}
+use Rattle.std.proofs.Common.{◌≡◌, ◌≢◌, ◌^◌, ℕ, Bool, true, false, List, [], Some, None, Ok, refl, ◌∙◌, arith}
 use Rattle.std.specs.Prelude.{Option, ◌==◌, if◌then◌else◌}
 use Rattle.std.proofs.lemmas.Bool.Decides.{nat_tests}
 use Rattle.serde_json.specs.Data.{Data}
 use Rattle.uss_vol4.specs.Volume.{Volume4D, IsVolume}
 use Rattle.uss_intent.specs.Texts.{IsBase, IsOvn}
-use Rattle.uss_intent.specs.declared.records.State.{State}
 use Rattle.uss_intent.specs.declared.records.Reference.{Reference}
 use Rattle.uss_intent.specs.declared.records.Subscriber.{Subscriber}
 use Rattle.uss_intent.specs.declared.records.Ticket.{Ticket}
 use Rattle.uss_intent.specs.declared.calls.DssAsk.{DssAsk}
 use Rattle.uss_intent.specs.declared.calls.DssAsk.TheVariants.{Query, Get, Put, Remove, TicketPut, TicketGet, TicketRemove}
 use Rattle.uss_wire_base.specs.declared.refusal.Member.{Member}
-use Rattle.uss_wire_base.specs.declared.refusal.Member.TheVariants as Member
-use Rattle.uss_wire_base.specs.declared.refusal.WireRefusal.{WireRefusal}
-use Rattle.uss_wire_base.specs.Instants.{is_instant}
-use Rattle.uss_wire_base.specs.Reading.{◌>>=◌, Reader, object_at, without, without_true, field, field_or, natural_at, natural_below, text_at, list_at, few_at, whole_of, data_of, message_of}
+use Rattle.uss_wire_base.specs.Reading.{Reader, object_at, without, without_true, field, field_or, natural_at, natural_below, text_at, list_at, few_at, whole_of, data_of, message_of}
 use Rattle.uss_wire_base.specs.Writing.{IsTextOf, AllOf}
 use Rattle.uss_wire_base.proofs.Again.{message_again}
 use Rattle.uss_wire_volume.specs.Volumes.{time_at, volume_at}
 use Rattle.uss_wire_volume.proofs.Again.{in_time}
 use Rattle.uss_wire_intent.specs.Texts.{base_at, ovn_at, state_at, identifier_at}
 use Rattle.uss_wire_intent.specs.References.{answered_reference_at, references_at}
-use Rattle.uss_wire_answer.specs.declared.errors.ErrorBody.{ErrorBody}
 use Rattle.uss_wire_answer.specs.Answers.{subscribers_at, change_answer_at, missing_at, error_at}
 use Rattle.uss_wire_answer.specs.Writing.{IsReadable, IsReadableSubscriber, IsReadableError}
 use Rattle.uss_wire.specs.Messages.{query_at, query_answer_at, get_answer_at, put_reference_at, put_subscription_at, any_text_at, ticket_at, subscription_answer_at}

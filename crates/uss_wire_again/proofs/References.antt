@@ -1,20 +1,16 @@
 -- What a reader gives of calls and answers of the discovery service is readable, in the words of the laws of reading again.
-use Rattle.std.proofs.Common.{◌≡◌, ◌≢◌, ◌^◌, ℕ, ◌+◌, ◌<◌, ◌≤◌, Bool, true, false, List, [], ◌∷◌, ◌++◌, length, Some, None, Ok, Err, Result, ℤ, refl, sym, arith}
-use Rattle.std.specs.Prelude.{Option, ◌==◌, nat_le, map, bytes_eq, if◌then◌else◌}
+use Rattle.std.proofs.Common.{◌≡◌, ◌^◌, ℕ, ◌<◌, ◌≤◌, Bool, true, false, List, [], ◌∷◌, ◌++◌, length, Some, None, Ok, ℤ, refl, arith}
+use Rattle.std.specs.Prelude.{Option, nat_le, map, bytes_eq, if◌then◌else◌}
 use Rattle.std.proofs.lemmas.Bool.Decides.{nat_tests}
 use Rattle.serde_json.specs.Data.{Data}
-use Rattle.uss_vol4.specs.Volume.{Volume4D, IsVolume}
 use Rattle.uss_intent.specs.Texts.{is_name, is_base, is_ovn, IsName, IsBase, IsOvn}
 use Rattle.uss_intent.specs.Identifiers.{identifier_of}
-use Rattle.uss_intent.specs.declared.records.State.{State}
 use Rattle.uss_intent.specs.declared.records.Reference.{Reference}
 use Rattle.uss_intent.specs.declared.records.Subscriber.{Subscriber}
 use Rattle.uss_wire_base.specs.declared.refusal.Member.{Member}
-use Rattle.uss_wire_base.specs.declared.refusal.Member.TheVariants as Member
-use Rattle.uss_wire_base.specs.declared.refusal.WireRefusal.{WireRefusal}
 use Rattle.uss_wire_base.specs.declared.refusal.WireRefusal.TheVariants.{BadName, BadBase, BadOvn, WrongKind, TooMany}
 use Rattle.uss_wire_base.specs.Instants.{is_instant}
-use Rattle.uss_wire_base.specs.Reading.{◌>>=◌, some_or, object_at, field, optional, natural_at, natural_below, text_at, list_at, few_at}
+use Rattle.uss_wire_base.specs.Reading.{some_or, object_at, field, optional, natural_at, natural_below, text_at, list_at, few_at}
 use Rattle.uss_wire_base.specs.Writing.{AllOf}
 use Rattle.uss_wire_volume.specs.Volumes.{time_at}
 use Rattle.uss_wire_intent.specs.Texts.{name_of, base_of, ovn_of, name_at, base_at, ovn_at, state_at, identifier_at}

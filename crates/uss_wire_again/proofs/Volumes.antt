@@ -1,7 +1,7 @@
 -- A volume that a reader gives is one, and so are the instants of a message in their range.
-use Rattle.std.proofs.Common.{◌≡◌, ℕ, zero, suc, ◌+◌, ◌<◌, ◌≤◌, Bool, true, false, not, List, [], ◌∷◌, length, Some, None, Ok, Err, Result, ℤ, ◌≤ℤ◌, refl, arith}
+use Rattle.std.proofs.Common.{◌≡◌, ℕ, ◌+◌, ◌≤◌, Bool, true, false, not, List, [], ◌∷◌, length, Some, None, Ok, Err, Result, ℤ, ◌≤ℤ◌, refl, arith}
 use Rattle.std.proofs.lemmas.Int.{ints}
-use Rattle.std.specs.Prelude.{Option, ◌&&◌, nat_lt, int_lt, int_le, All, codes, cond, if◌then◌else◌}
+use Rattle.std.specs.Prelude.{Option, ◌&&◌, nat_lt, int_lt, All, codes, cond, if◌then◌else◌}
 use Rattle.std.specs.List.{position_from}
 use Rattle.std.proofs.lemmas.Bool.Decides.{nat_tests}
 use Rattle.std.proofs.lemmas.List.Elements.{All-nil, All-cons}
@@ -11,7 +11,6 @@ use Rattle.uss_shape.specs.Plane.{InPlane}
 use Rattle.uss_shape.specs.Shape.{IsOutline}
 use Rattle.uss_vol4.specs.Volume.{Volume4D, IsVolume, InAltitude, InTime}
 use Rattle.uss_wire_base.specs.declared.refusal.Member.{Member}
-use Rattle.uss_wire_base.specs.declared.refusal.Member.TheVariants as Member
 use Rattle.uss_wire_base.specs.declared.refusal.WireRefusal.{WireRefusal}
 use Rattle.uss_wire_base.specs.declared.refusal.WireRefusal.TheVariants.{TooFewVertices, TooManyVertices, LowAboveHigh, StartAfterEnd, AltitudeRange, TimeRange}
 use Rattle.uss_wire_base.specs.declared.instants.InstantRefusal.{InstantRefusal}
@@ -19,9 +18,9 @@ use Rattle.uss_wire_base.specs.declared.instants.InstantRefusal.TheVariants as I
 use Rattle.uss_wire_base.specs.Instants.{is_instant, is_civil, moment_of, in_range, instant_of}
 use Rattle.uss_wire_base.specs.InstantText.{read_instant, civil_at}
 use Rattle.uss_wire_base.specs.Moments.{moment_at, instant_at}
-use Rattle.uss_wire_base.specs.Reading.{◌>>=◌, object_at, without, field, integer_at, text_at, word_at, list_at}
+use Rattle.uss_wire_base.specs.Reading.{object_at, without, field, text_at, word_at, list_at}
 use Rattle.uss_wire_volume.specs.Volumes.{vertex_at, is_in_plane, unless_out, outline_of, polygon_at, altitude_at, time_at, space_at, is_altitude, is_moment, volume_of, volume_at}
-use Rattle.uss_wire_again.proofs.Yields.{Yields, weaken, after, behind, tested, in_field}
+use Rattle.uss_wire_again.proofs.Yields.{Yields, after, behind, tested, in_field}
 
 -- ---- instants
 abbrev pub IsInstant : ℤ → Type 0
