@@ -50,9 +50,9 @@ shown_given : (place : Member) (d : Data) → Yields IsShown (intent_reference_a
 unfolding intent_reference_at
 shown_given place d =
     after (KeepsFront joined) IsShown (front_at place d) _ (front_given place d)
-      (λ f keeps. after IsOvn IsShown (field Member.Ovn ovn_at d) _ (in_field IsOvn Member.Ovn ovn_at (ovn_given Member.Ovn) d)
-        (λ (o : List ℕ) ovn. after (KeepsBack joined) IsShown (back_at d) _ (back_given d)
-          (λ b back. record { flight = (keeps (Some o) b).flight; manager = (keeps (Some o) b).manager; version = (keeps (Some o) b).version; ovn = ovn; start = (back f (Some o)).start; end = (back f (Some o)).end; base = (back f (Some o)).base; ticket = (back f (Some o)).ticket })))
+    (λ f keeps. after IsOvn IsShown (field Member.Ovn ovn_at d) _ (in_field IsOvn Member.Ovn ovn_at (ovn_given Member.Ovn) d)
+    (λ (o : List ℕ) ovn. after (KeepsBack joined) IsShown (back_at d) _ (back_given d)
+    (λ b back. record { flight = (keeps (Some o) b).flight; manager = (keeps (Some o) b).manager; version = (keeps (Some o) b).version; ovn = ovn; start = (back f (Some o)).start; end = (back f (Some o)).end; base = (back f (Some o)).base; ticket = (back f (Some o)).ticket })))
 
 -- ---- details and intents
 record HasVolumes (d : Details) : Type 0 where
@@ -63,8 +63,8 @@ details_given : (place : Member) (d : Data) → Yields HasVolumes (details_at pl
 unfolding details_at
 details_given place d =
     behind HasVolumes (object_at place d) _ (λ u. after (AllOf IsVolume) HasVolumes (field Member.Volumes volumes_at d) _ (in_field (AllOf IsVolume) Member.Volumes volumes_at (volumes_given Member.Volumes) d)
-      (λ (vs : List Volume4D) volumes. after (AllOf IsVolume) HasVolumes (field_or [] Member.OffNominalVolumes volumes_at d) _ (in_field_or (AllOf IsVolume) [] Member.OffNominalVolumes volumes_at tt (volumes_given Member.OffNominalVolumes) d)
-        (λ (os : List Volume4D) off_nominal. behind HasVolumes (field_or 0 Member.Priority (natural_below (2 ^ 16)) d) _ (λ priority. record { volumes = volumes; off_nominal = off_nominal }))))
+    (λ (vs : List Volume4D) volumes. after (AllOf IsVolume) HasVolumes (field_or [] Member.OffNominalVolumes volumes_at d) _ (in_field_or (AllOf IsVolume) [] Member.OffNominalVolumes volumes_at tt (volumes_given Member.OffNominalVolumes) d)
+    (λ (os : List Volume4D) off_nominal. behind HasVolumes (field_or 0 Member.Priority (natural_below (2 ^ 16)) d) _ (λ priority. record { volumes = volumes; off_nominal = off_nominal }))))
 
 shows_some : (o : Option (List ℕ)) → ShowsOvn o → is_some o ≡ true
 shows_some None h = absurd h
@@ -113,8 +113,8 @@ intent_given : (place : Member) (d : Data) → Yields IsReadable (intent_at plac
 unfolding intent_at
 intent_given place d =
     behind IsReadable (object_at place d) _ (λ u. after IsShown IsReadable (field Member.Reference intent_reference_at d) _ (in_field IsShown Member.Reference intent_reference_at (shown_given Member.Reference) d)
-      (λ (r : Reference) shown. after HasVolumes IsReadable (field Member.Details details_at d) (λ details. intent_of r details) (in_field HasVolumes Member.Details details_at (details_given Member.Details) d)
-        (λ (details : Details) volumes. intent_of_given r details shown volumes)))
+    (λ (r : Reference) shown. after HasVolumes IsReadable (field Member.Details details_at d) (λ details. intent_of r details) (in_field HasVolumes Member.Details details_at (details_given Member.Details) d)
+    (λ (details : Details) volumes. intent_of_given r details shown volumes)))
 
 pub details_answer_given : (d : Data) → Yields IsReadable (details_answer_at Member.Whole d)
 unfolding details_answer_at
@@ -128,7 +128,7 @@ told_given : (place : Member) (d : Data) → Yields IsTold (told_at place d)
 unfolding told_at
 told_given place d =
     behind IsTold (object_at place d) _ (λ u. after IsIdentifier IsTold (field Member.SubscriptionId identifier_at d) _ (in_field IsIdentifier Member.SubscriptionId identifier_at (identifier_given Member.SubscriptionId) d)
-      (λ (id : ℕ) ticket. behind IsTold (field Member.NotificationIndex natural_at d) _ (λ index. ticket)))
+    (λ (id : ℕ) ticket. behind IsTold (field Member.NotificationIndex natural_at d) _ (λ index. ticket)))
 
 if_any : (o : Option OperationalIntent) → IfAny IsReadable o → IsReadableIfAny o
 if_any None h = tt
@@ -138,25 +138,25 @@ pub notification_given : (d : Data) → Yields IsReadableNote (notification_at M
 unfolding notification_at
 notification_given d =
     behind IsReadableNote (object_at Member.Whole d) _ (λ u. after IsIdentifier IsReadableNote (field Member.OperationalIntentId identifier_at d) _ (in_field IsIdentifier Member.OperationalIntentId identifier_at (identifier_given Member.OperationalIntentId) d)
-      (λ (flight : ℕ) id. after (IfAny IsReadable) IsReadableNote (optional Member.OperationalIntent intent_at d) _ (in_optional IsReadable Member.OperationalIntent intent_at (intent_given Member.OperationalIntent) d)
-        (λ (pair : Option OperationalIntent) readable. after IsTold IsReadableNote (field Member.Subscriptions (one_at told_at) d) _ (in_field IsTold Member.Subscriptions (one_at told_at) (in_one IsTold Member.Subscriptions told_at (told_given Member.Subscriptions)) d)
-          (λ (told : ℕ × ℕ) ticket. record { flight = id; pair = if_any pair readable; ticket = ticket }))))
+    (λ (flight : ℕ) id. after (IfAny IsReadable) IsReadableNote (optional Member.OperationalIntent intent_at d) _ (in_optional IsReadable Member.OperationalIntent intent_at (intent_given Member.OperationalIntent) d)
+    (λ (pair : Option OperationalIntent) readable. after IsTold IsReadableNote (field Member.Subscriptions (one_at told_at) d) _ (in_field IsTold Member.Subscriptions (one_at told_at) (in_one IsTold Member.Subscriptions told_at (told_given Member.Subscriptions)) d)
+    (λ (told : ℕ × ℕ) ticket. record { flight = id; pair = if_any pair readable; ticket = ticket }))))
 
 -- ---- requests and positions
 proposal_given : (place : Member) (d : Data) → Yields IsReadableProposal (proposal_at place d)
 unfolding proposal_at
 proposal_given place d =
     behind IsReadableProposal (object_at place d) _ (λ u. after (AllOf IsVolume) IsReadableProposal (field Member.Volumes volumes_at d) _ (in_field (AllOf IsVolume) Member.Volumes volumes_at (volumes_given Member.Volumes) d)
-      (λ (vs : List Volume4D) volumes. after (AllOf IsVolume) IsReadableProposal (field_or [] Member.OffNominalVolumes volumes_at d) _ (in_field_or (AllOf IsVolume) [] Member.OffNominalVolumes volumes_at tt (volumes_given Member.OffNominalVolumes) d)
-        (λ (os : List Volume4D) off_nominal. record { volumes = volumes; off_nominal = off_nominal })))
+    (λ (vs : List Volume4D) volumes. after (AllOf IsVolume) IsReadableProposal (field_or [] Member.OffNominalVolumes volumes_at d) _ (in_field_or (AllOf IsVolume) [] Member.OffNominalVolumes volumes_at tt (volumes_given Member.OffNominalVolumes) d)
+    (λ (os : List Volume4D) off_nominal. record { volumes = volumes; off_nominal = off_nominal })))
 
 put_given : (d : Data) → Yields IsReadableWish (put_at d)
 unfolding put_at
 put_given d =
     behind IsReadableWish (field Member.To state_at d) _ (λ to. after (IsBelow (2 ^ 16)) IsReadableWish (field Member.Priority (natural_below (2 ^ 16)) d) _ (in_field (IsBelow (2 ^ 16)) Member.Priority (natural_below (2 ^ 16)) (natural_small (2 ^ 16) Member.Priority) d)
-      (λ (priority : ℕ) low. after (IsBelow (2 ^ 8)) IsReadableWish (field Member.Rounds (natural_below (2 ^ 8)) d) _ (in_field (IsBelow (2 ^ 8)) Member.Rounds (natural_below (2 ^ 8)) (natural_small (2 ^ 8) Member.Rounds) d)
-        (λ (rounds : ℕ) few. after (AllOf IsReadableProposal) IsReadableWish (field Member.Alternatives (list_at proposal_at) d) _ (in_field (AllOf IsReadableProposal) Member.Alternatives (list_at proposal_at) (in_list IsReadableProposal Member.Alternatives proposal_at (proposal_given Member.Alternatives)) d)
-          (λ (proposals : List Proposal) all. (low, few, all)))))
+    (λ (priority : ℕ) low. after (IsBelow (2 ^ 8)) IsReadableWish (field Member.Rounds (natural_below (2 ^ 8)) d) _ (in_field (IsBelow (2 ^ 8)) Member.Rounds (natural_below (2 ^ 8)) (natural_small (2 ^ 8) Member.Rounds) d)
+    (λ (rounds : ℕ) few. after (AllOf IsReadableProposal) IsReadableWish (field Member.Alternatives (list_at proposal_at) d) _ (in_field (AllOf IsReadableProposal) Member.Alternatives (list_at proposal_at) (in_list IsReadableProposal Member.Alternatives proposal_at (proposal_given Member.Alternatives)) d)
+    (λ (proposals : List Proposal) all. (low, few, all)))))
 
 wish_with : (put end : Bool) (d : Data) → Yields IsReadableWish (if put then put_at d else if end then Ok End else Err (WrongKind Member.Wish))
 wish_with true end d = put_given d
@@ -181,4 +181,4 @@ pub positions_given : (d : Data) → Yields HasOffNominal (positions_at Member.W
 unfolding positions_at
 positions_given d =
     behind HasOffNominal (object_at Member.Whole d) _ (λ u. behind HasOffNominal (field Member.Flight natural_at d) _ (λ flight. behind HasOffNominal (field Member.Number natural_at d) _ (λ number. behind HasOffNominal (field Member.LatE7 integer_at d) _ (λ lat. behind HasOffNominal (field Member.LngE7 integer_at d) _ (λ lng. behind HasOffNominal (field Member.AltitudeMm integer_at d) _ (λ altitude. after (AllOf IsVolume) HasOffNominal (field Member.OffNominalVolumes volumes_at d) _ (in_field (AllOf IsVolume) Member.OffNominalVolumes volumes_at (volumes_given Member.OffNominalVolumes) d)
-      (λ (os : List Volume4D) all. all)))))))
+    (λ (os : List Volume4D) all. all)))))))

@@ -18,9 +18,9 @@ sum_small b0 b1 b2 b3 b4 b5 b6 b7 b8 b9 b10 b11 b12 b13 b14 b15 h0 h1 h2 h3 h4 h
 number_small : (bytes : List ℕ) → ((j : ℕ) → j < 16 → get_or bytes j 0 < 256) → from_be_bytes w128 bytes < 2 ^ 128
 number_small bytes h =
     sum_small (get_or bytes 0 0) (get_or bytes 1 0) (get_or bytes 2 0) (get_or bytes 3 0) (get_or bytes 4 0) (get_or bytes 5 0) (get_or bytes 6 0) (get_or bytes 7 0)
-      (get_or bytes 8 0) (get_or bytes 9 0) (get_or bytes 10 0) (get_or bytes 11 0) (get_or bytes 12 0) (get_or bytes 13 0) (get_or bytes 14 0) (get_or bytes 15 0)
-      (h 0 (omega arith)) (h 1 (omega arith)) (h 2 (omega arith)) (h 3 (omega arith)) (h 4 (omega arith)) (h 5 (omega arith)) (h 6 (omega arith)) (h 7 (omega arith))
-      (h 8 (omega arith)) (h 9 (omega arith)) (h 10 (omega arith)) (h 11 (omega arith)) (h 12 (omega arith)) (h 13 (omega arith)) (h 14 (omega arith)) (h 15 (omega arith))
+    (get_or bytes 8 0) (get_or bytes 9 0) (get_or bytes 10 0) (get_or bytes 11 0) (get_or bytes 12 0) (get_or bytes 13 0) (get_or bytes 14 0) (get_or bytes 15 0)
+    (h 0 (omega arith)) (h 1 (omega arith)) (h 2 (omega arith)) (h 3 (omega arith)) (h 4 (omega arith)) (h 5 (omega arith)) (h 6 (omega arith)) (h 7 (omega arith))
+    (h 8 (omega arith)) (h 9 (omega arith)) (h 10 (omega arith)) (h 11 (omega arith)) (h 12 (omega arith)) (h 13 (omega arith)) (h 14 (omega arith)) (h 15 (omega arith))
 
 indexed_small : (f : ℕ → ℕ) → ((j : ℕ) → j < 16 → f j < 256) → (j : ℕ) → j < 16 → get_or (by_index 16 f) j 0 < 256
 indexed_small f small j h = rw (by_index_at 16 f j 0 h) (small j h)
@@ -42,8 +42,8 @@ thirty_two n h = grind (arith, nat_tests)
 bytes_small : (hex : List ℕ) → length hex ≡ 32 → list_all is_hex_digit hex ≡ true → (j : ℕ) → j < 16 → byte_of_digits hex j < 256
 bytes_small hex size all j h =
     two_small (value_of (slice_index hex (2 * j))) (value_of (slice_index hex (2 * j + 1)))
-      (value_small (slice_index hex (2 * j)) (digit_at hex (2 * j) all (omega arith)))
-      (value_small (slice_index hex (2 * j + 1)) (digit_at hex (2 * j + 1) all (omega arith)))
+    (value_small (slice_index hex (2 * j)) (digit_at hex (2 * j) all (omega arith)))
+    (value_small (slice_index hex (2 * j + 1)) (digit_at hex (2 * j + 1) all (omega arith)))
 
 -- the bytes, if there are any, are those of a number of 128 bits
 abbrev Small : Option (List ℕ) → Type 0
@@ -70,8 +70,8 @@ urn_small text = either_small _ (parsed_hyphenated (drop 9 text)) None (λ is. h
 parsed_small : (text : List ℕ) → Small (parsed text)
 parsed_small text =
     either_small (length text == 32) (parsed_simple text) _ (λ is. simple_small text)
-      (either_small (length text == 36) (parsed_hyphenated text) _ (λ is. hyphenated_small text)
-        (either_small (length text == 38) (parsed_braced text) _ (λ is. braced_small text) (either_small (length text == 45) (parsed_urn text) None (λ is. urn_small text) tt)))
+    (either_small (length text == 36) (parsed_hyphenated text) _ (λ is. hyphenated_small text)
+    (either_small (length text == 38) (parsed_braced text) _ (λ is. braced_small text) (either_small (length text == 45) (parsed_urn text) None (λ is. urn_small text) tt)))
 
 taken_small : (b : Bool) (n m : ℕ) → n < 2 ^ 128 → (if b then Some n else None) ≡ Some m → m < 2 ^ 128
 taken_small true n m h is = let same : n ≡ m = cc in rw same at h

@@ -57,16 +57,16 @@ pub put_given : (flight : ℕ) (ovn : Option (List ℕ)) (d : Data) → Yields I
 unfolding put_reference_at
 put_given flight ovn d =
     behind IsGivenCall (object_at Member.Whole d) _ (λ u. behind IsGivenCall (without Member.NewSubscription d) _ (λ v. after (AllOf IsVolume) IsGivenCall (field Member.Extents (list_at volume_at) d) _ (in_field (AllOf IsVolume) Member.Extents (list_at volume_at) (in_list IsVolume Member.Extents volume_at (volume_given Member.Extents)) d)
-      (λ (extents : List Volume4D) all. after (FewOf IsOvn 1024) IsGivenCall (field_or [] Member.Key (few_at 1024 ovn_at) d) _ (in_field_or (FewOf IsOvn 1024) [] Member.Key (few_at 1024 ovn_at) (tt, omega arith) (in_few IsOvn 1024 Member.Key ovn_at (ovn_given Member.Key)) d)
-        (λ (key : List (List ℕ)) few. behind IsGivenCall (field Member.State state_at d) _ (λ state. after IsBase IsGivenCall (field Member.UssBaseUrl base_at d) _ (in_field IsBase Member.UssBaseUrl base_at (base_given Member.UssBaseUrl) d)
-          (λ (base : List ℕ) url. after IsIdentifier IsGivenCall (field Member.SubscriptionId identifier_at d) _ (in_field IsIdentifier Member.SubscriptionId identifier_at (identifier_given Member.SubscriptionId) d)
-            (λ (ticket : ℕ) id. record { extents = all; key = few.0; few = few.1; base = url; ticket = id })))))))
+    (λ (extents : List Volume4D) all. after (FewOf IsOvn 1024) IsGivenCall (field_or [] Member.Key (few_at 1024 ovn_at) d) _ (in_field_or (FewOf IsOvn 1024) [] Member.Key (few_at 1024 ovn_at) (tt, omega arith) (in_few IsOvn 1024 Member.Key ovn_at (ovn_given Member.Key)) d)
+    (λ (key : List (List ℕ)) few. behind IsGivenCall (field Member.State state_at d) _ (λ state. after IsBase IsGivenCall (field Member.UssBaseUrl base_at d) _ (in_field IsBase Member.UssBaseUrl base_at (base_given Member.UssBaseUrl) d)
+    (λ (base : List ℕ) url. after IsIdentifier IsGivenCall (field Member.SubscriptionId identifier_at d) _ (in_field IsIdentifier Member.SubscriptionId identifier_at (identifier_given Member.SubscriptionId) d)
+    (λ (ticket : ℕ) id. record { extents = all; key = few.0; few = few.1; base = url; ticket = id })))))))
 
 pub ticket_put_given : (ticket : ℕ) (d : Data) → Yields IsGivenCall (put_subscription_at ticket Member.Whole d)
 unfolding put_subscription_at
 ticket_put_given ticket d =
     behind IsGivenCall (object_at Member.Whole d) _ (λ u. behind IsGivenCall (without_true Member.NotifyForConstraints d) _ (λ v. after IsVolume IsGivenCall (field Member.Extents volume_at d) _ (in_field IsVolume Member.Extents volume_at (volume_given Member.Extents) d)
-      (λ (area : Volume4D) is. after IsBase IsGivenCall (field Member.UssBaseUrl base_at d) _ (in_field IsBase Member.UssBaseUrl base_at (base_given Member.UssBaseUrl) d) (λ (base : List ℕ) url. (is, url)))))
+    (λ (area : Volume4D) is. after IsBase IsGivenCall (field Member.UssBaseUrl base_at d) _ (in_field IsBase Member.UssBaseUrl base_at (base_given Member.UssBaseUrl) d) (λ (base : List ℕ) url. (is, url)))))
 
 -- ---- answers
 pub found_given : (client : List ℕ) (d : Data) → Yields (FewOf (IsReadable client) 4096) (query_answer_at client Member.Whole d)
@@ -89,8 +89,8 @@ shown_given : (client : List ℕ) (area : Volume4D) (place : Member) (d : Data) 
 unfolding ticket_at
 shown_given client area place d is =
     behind (IsTicketOf client area) (object_at place d) _ (λ u. after IsIdentifier (IsTicketOf client area) (field Member.Id identifier_at d) _ (in_field IsIdentifier Member.Id identifier_at (identifier_given Member.Id) d)
-      (λ (number : ℕ) id. behind (IsTicketOf client area) (any_text_at Member.Version d) _ (λ v. behind (IsTicketOf client area) (field Member.NotificationIndex natural_at d) _ (λ index. behind (IsTicketOf client area) (field Member.TimeStart time_at d) _ (λ start. behind (IsTicketOf client area) (field Member.TimeEnd time_at d) _ (λ end. after IsBase (IsTicketOf client area) (field Member.UssBaseUrl base_at d) _ (in_field IsBase Member.UssBaseUrl base_at (base_given Member.UssBaseUrl) d)
-        (λ (base : List ℕ) url. record { readable = record { id = id; start = in_time area.start is.start; end = in_time area.end is.end; base = url }; manager = refl; area = refl })))))))
+    (λ (number : ℕ) id. behind (IsTicketOf client area) (any_text_at Member.Version d) _ (λ v. behind (IsTicketOf client area) (field Member.NotificationIndex natural_at d) _ (λ index. behind (IsTicketOf client area) (field Member.TimeStart time_at d) _ (λ start. behind (IsTicketOf client area) (field Member.TimeEnd time_at d) _ (λ end. after IsBase (IsTicketOf client area) (field Member.UssBaseUrl base_at d) _ (in_field IsBase Member.UssBaseUrl base_at (base_given Member.UssBaseUrl) d)
+    (λ (base : List ℕ) url. record { readable = record { id = id; start = in_time area.start is.start; end = in_time area.end is.end; base = url }; manager = refl; area = refl })))))))
 
 pub ticket_given : (client : List ℕ) (area : Volume4D) → IsVolume area → (d : Data) → Yields (IsTicketOf client area) (subscription_answer_at client area Member.Whole d)
 unfolding subscription_answer_at
@@ -107,8 +107,8 @@ pub change_given : (client : List ℕ) (d : Data) → Yields (IsGivenChange clie
 unfolding change_answer_at
 change_given client d =
     behind (IsGivenChange client) (object_at Member.Whole d) _ (λ u. after (FewOf IsReadableSubscriber 8192) (IsGivenChange client) (field Member.Subscribers subscribers_at d) _ (in_field (FewOf IsReadableSubscriber 8192) Member.Subscribers subscribers_at (subscribers_given Member.Subscribers) d)
-      (λ (ss : List Subscriber) all. after (IsReadable client) (IsGivenChange client) (field Member.OperationalIntentReference (answered_reference_at client) d) _ (in_field (IsReadable client) Member.OperationalIntentReference (answered_reference_at client) (reference_given client Member.OperationalIntentReference) d)
-        (λ (r : Reference) is. (is, all))))
+    (λ (ss : List Subscriber) all. after (IsReadable client) (IsGivenChange client) (field Member.OperationalIntentReference (answered_reference_at client) d) _ (in_field (IsReadable client) Member.OperationalIntentReference (answered_reference_at client) (reference_given client Member.OperationalIntentReference) d)
+    (λ (r : Reference) is. (is, all))))
 
 -- ---- errors
 abbrev IsMissing : List ℕ → ℕ → List Reference → Type 0
@@ -120,12 +120,12 @@ is_209 n h = grind (arith, nat_tests)
 missing_with : (client : List ℕ) (refusal : ℕ) (d : Data) (b : Bool) → (refusal == 209) ≡ b → Yields (IsMissing client refusal) (if b then field Member.MissingOperationalIntents (references_at client) d else Ok [])
 missing_with client refusal d true is =
     weaken (FewOf (IsReadable client) 4096) (IsMissing client refusal) (field Member.MissingOperationalIntents (references_at client) d) (in_field (FewOf (IsReadable client) 4096) Member.MissingOperationalIntents (references_at client) (references_given client Member.MissingOperationalIntents) d)
-      (λ (rs : List Reference) all. (all, λ other. absurd (other (is_209 refusal is))))
+    (λ (rs : List Reference) all. (all, λ other. absurd (other (is_209 refusal is))))
 missing_with client refusal d false is = ((tt, omega arith), λ other. refl)
 
 pub error_given : (client : List ℕ) (d : Data) → Yields (IsReadableError client) (error_at client Member.Whole d)
 unfolding error_at
 error_given client d =
     behind (IsReadableError client) (object_at Member.Whole d) _ (λ u. behind (IsReadableError client) (field Member.Message text_at d) _ (λ message. after (IsBelow (2 ^ 16)) (IsReadableError client) (field Member.Refusal (natural_below (2 ^ 16)) d) _ (in_field (IsBelow (2 ^ 16)) Member.Refusal (natural_below (2 ^ 16)) (natural_small (2 ^ 16) Member.Refusal) d)
-      (λ (refusal : ℕ) small. after (IsMissing client refusal) (IsReadableError client) (missing_at client refusal d) _ (missing_with client refusal d (refusal == 209) refl)
-        (λ (missing : List Reference) all. record { refusal = small; each = all.0.0; few = all.0.1; only = all.1 }))))
+    (λ (refusal : ℕ) small. after (IsMissing client refusal) (IsReadableError client) (missing_at client refusal d) _ (missing_with client refusal d (refusal == 209) refl)
+    (λ (missing : List Reference) all. record { refusal = small; each = all.0.0; few = all.0.1; only = all.1 }))))

@@ -75,18 +75,18 @@ pub front_given : (place : Member) (d : Data) → Yields (KeepsFront joined) (fr
 unfolding front_at
 front_given place d =
     behind (KeepsFront joined) (object_at place d) _ (λ u. after IsIdentifier (KeepsFront joined) (field Member.Id identifier_at d) _ (in_field IsIdentifier Member.Id identifier_at (identifier_given Member.Id) d)
-      (λ (flight : ℕ) id. after IsName (KeepsFront joined) (field Member.Manager name_at d) _ (in_field IsName Member.Manager name_at (name_given Member.Manager) d)
-        (λ (manager : List ℕ) name. after (IsBelow (2 ^ 32)) (KeepsFront joined) (field Member.Version (natural_below (2 ^ 32)) d) _ (in_field (IsBelow (2 ^ 32)) Member.Version (natural_below (2 ^ 32)) (natural_small (2 ^ 32) Member.Version) d)
-          (λ (version : ℕ) small. behind (KeepsFront joined) (field Member.State state_at d) _ (λ state. λ o b. record { flight = id; manager = name; version = small })))))
+    (λ (flight : ℕ) id. after IsName (KeepsFront joined) (field Member.Manager name_at d) _ (in_field IsName Member.Manager name_at (name_given Member.Manager) d)
+    (λ (manager : List ℕ) name. after (IsBelow (2 ^ 32)) (KeepsFront joined) (field Member.Version (natural_below (2 ^ 32)) d) _ (in_field (IsBelow (2 ^ 32)) Member.Version (natural_below (2 ^ 32)) (natural_small (2 ^ 32) Member.Version) d)
+    (λ (version : ℕ) small. behind (KeepsFront joined) (field Member.State state_at d) _ (λ state. λ o b. record { flight = id; manager = name; version = small })))))
 
 pub back_given : (d : Data) → Yields (KeepsBack joined) (back_at d)
 unfolding back_at
 back_given d =
     after IsInstant (KeepsBack joined) (field Member.TimeStart time_at d) _ (in_field IsInstant Member.TimeStart time_at (time_given Member.TimeStart) d)
-      (λ (first : ℤ) start. after IsInstant (KeepsBack joined) (field Member.TimeEnd time_at d) _ (in_field IsInstant Member.TimeEnd time_at (time_given Member.TimeEnd) d)
-        (λ (last : ℤ) end. after IsBase (KeepsBack joined) (field Member.UssBaseUrl base_at d) _ (in_field IsBase Member.UssBaseUrl base_at (base_given Member.UssBaseUrl) d)
-          (λ (url : List ℕ) base. after IsIdentifier (KeepsBack joined) (field Member.SubscriptionId identifier_at d) _ (in_field IsIdentifier Member.SubscriptionId identifier_at (identifier_given Member.SubscriptionId) d)
-            (λ (id : ℕ) ticket. λ f o. record { start = start; end = end; base = base; ticket = ticket }))))
+    (λ (first : ℤ) start. after IsInstant (KeepsBack joined) (field Member.TimeEnd time_at d) _ (in_field IsInstant Member.TimeEnd time_at (time_given Member.TimeEnd) d)
+    (λ (last : ℤ) end. after IsBase (KeepsBack joined) (field Member.UssBaseUrl base_at d) _ (in_field IsBase Member.UssBaseUrl base_at (base_given Member.UssBaseUrl) d)
+    (λ (url : List ℕ) base. after IsIdentifier (KeepsBack joined) (field Member.SubscriptionId identifier_at d) _ (in_field IsIdentifier Member.SubscriptionId identifier_at (identifier_given Member.SubscriptionId) d)
+    (λ (id : ℕ) ticket. λ f o. record { start = start; end = end; base = base; ticket = ticket }))))
 
 shown : (client manager : List ℕ) → bytes_eq manager client ≡ true → (o : Option (List ℕ)) → IfAny IsOvn o → ShowsOvn client manager o
 shown client manager own None h = tt
@@ -108,9 +108,9 @@ pub reference_given : (client : List ℕ) (place : Member) (d : Data) → Yields
 unfolding answered_reference_at
 reference_given client place d =
     after (KeepsFront joined) (IsReadable client) (front_at place d) _ (front_given place d)
-      (λ f keeps. after (ShownBy joined client f) (IsReadable client) (ovn_for client f.manager d) _ (weaken (ShowsOvn client f.manager) (ShownBy joined client f) (ovn_for client f.manager d) (ovn_for_given client f.manager d) (λ o h b. h))
-        (λ (o : Option (List ℕ)) ovn. after (KeepsBack joined) (IsReadable client) (back_at d) _ (back_given d)
-          (λ b back. record { flight = (keeps o b).flight; manager = (keeps o b).manager; version = (keeps o b).version; ovn = ovn b; start = (back f o).start; end = (back f o).end; base = (back f o).base; ticket = (back f o).ticket })))
+    (λ f keeps. after (ShownBy joined client f) (IsReadable client) (ovn_for client f.manager d) _ (weaken (ShowsOvn client f.manager) (ShownBy joined client f) (ovn_for client f.manager d) (ovn_for_given client f.manager d) (λ o h b. h))
+    (λ (o : Option (List ℕ)) ovn. after (KeepsBack joined) (IsReadable client) (back_at d) _ (back_given d)
+    (λ b back. record { flight = (keeps o b).flight; manager = (keeps o b).manager; version = (keeps o b).version; ovn = ovn b; start = (back f o).start; end = (back f o).end; base = (back f o).base; ticket = (back f o).ticket })))
 
 pub references_given : (client : List ℕ) (m : Member) (d : Data) → Yields (FewOf (IsReadable client) 4096) (references_at client m d)
 unfolding references_at
@@ -124,7 +124,7 @@ told_given : (place : Member) (d : Data) → Yields (Tells told_by) (told_at pla
 unfolding told_at
 told_given place d =
     behind (Tells told_by) (object_at place d) _ (λ u. after IsIdentifier (Tells told_by) (field Member.SubscriptionId identifier_at d) _ (in_field IsIdentifier Member.SubscriptionId identifier_at (identifier_given Member.SubscriptionId) d)
-      (λ (id : ℕ) ticket. behind (Tells told_by) (field Member.NotificationIndex natural_at d) _ (λ index. λ base url. record { base = url; ticket = ticket })))
+    (λ (id : ℕ) ticket. behind (Tells told_by) (field Member.NotificationIndex natural_at d) _ (λ index. λ base url. record { base = url; ticket = ticket })))
 
 all_told : {T : Type 0} (by : List ℕ → T → Subscriber) (base : List ℕ) → IsBase base → (ts : List T) → AllOf (Tells by) ts → AllOf IsReadableSubscriber (map (by base) ts)
 all_told by base url [] all = tt
@@ -134,8 +134,8 @@ subscriber_given : (place : Member) (d : Data) → Yields (AllOf IsReadableSubsc
 unfolding subscriber_at
 subscriber_given place d =
     behind (AllOf IsReadableSubscriber) (object_at place d) _ (λ u. after (AllOf (Tells told_by)) (AllOf IsReadableSubscriber) (field Member.Subscriptions (list_at told_at) d) _ (in_field (AllOf (Tells told_by)) Member.Subscriptions (list_at told_at) (in_list (Tells told_by) Member.Subscriptions told_at (told_given Member.Subscriptions)) d)
-      (λ ts all. after IsBase (AllOf IsReadableSubscriber) (field Member.UssBaseUrl base_at d) _ (in_field IsBase Member.UssBaseUrl base_at (base_given Member.UssBaseUrl) d)
-        (λ (base : List ℕ) url. all_told told_by base url ts all)))
+    (λ ts all. after IsBase (AllOf IsReadableSubscriber) (field Member.UssBaseUrl base_at d) _ (in_field IsBase Member.UssBaseUrl base_at (base_given Member.UssBaseUrl) d)
+    (λ (base : List ℕ) url. all_told told_by base url ts all)))
 
 both_lists : (P : Subscriber → Type 0) (xs ys : List Subscriber) → AllOf P xs → AllOf P ys → AllOf P (xs ++ ys)
 both_lists P [] ys h k = k
@@ -152,4 +152,4 @@ pub subscribers_given : (m : Member) (d : Data) → Yields (FewOf IsReadableSubs
 unfolding subscribers_at
 subscribers_given m d =
     after (FewOf (AllOf IsReadableSubscriber) 8192) (FewOf IsReadableSubscriber 8192) (few_at 8192 subscriber_at m d) (λ lists. at_most_8192 m (flatten lists)) (in_few (AllOf IsReadableSubscriber) 8192 m subscriber_at (subscriber_given m) d)
-      (λ (lists : List (List Subscriber)) all. tested (FewOf IsReadableSubscriber 8192) (nat_le (length (flatten lists)) 8192) (flatten lists) (TooMany m) (λ is. (all_lists IsReadableSubscriber lists all.0, at_most (length (flatten lists)) 8192 is)))
+    (λ (lists : List (List Subscriber)) all. tested (FewOf IsReadableSubscriber 8192) (nat_le (length (flatten lists)) 8192) (flatten lists) (TooMany m) (λ is. (all_lists IsReadableSubscriber lists all.0, at_most (length (flatten lists)) 8192 is)))

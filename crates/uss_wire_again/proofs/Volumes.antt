@@ -45,7 +45,7 @@ pub time_given : (m : Member) (d : Data) → Yields IsInstant (time_at m d)
 unfolding time_at
 time_given m d =
     behind IsInstant (object_at m d) _ (λ u. after IsInstant IsInstant (field Member.Value instant_at d) _ (in_field IsInstant Member.Value instant_at (instant_given Member.Value) d)
-      (λ (z : ℤ) is. behind IsInstant (field Member.Format (word_at (codes "RFC3339")) d) (λ v. Ok z) (λ v. is)))
+    (λ (z : ℤ) is. behind IsInstant (field Member.Format (word_at (codes "RFC3339")) d) (λ v. Ok z) (λ v. is)))
 
 -- ---- outlines
 abbrev is_out : Place → Bool
@@ -123,10 +123,10 @@ space_given : (m : Member) (d : Data) → Yields (Makes volume_of) (space_at m d
 unfolding space_at
 space_given m d =
     behind (Makes volume_of) (object_at m d) _ (λ u. behind (Makes volume_of) (without Member.OutlineCircle d) _ (λ v. after IsOutline (Makes volume_of) (field Member.OutlinePolygon polygon_at d) _ (in_field IsOutline Member.OutlinePolygon polygon_at (polygon_given Member.OutlinePolygon) d)
-      (λ (outline : List Place) is. behind (Makes volume_of) (field Member.AltitudeLower altitude_at d) _ (λ (low : ℤ). behind (Makes volume_of) (field Member.AltitudeUpper altitude_at d) _ (λ (high : ℤ). λ (start end : ℤ). made_given (record { outline = outline; low = low; high = high; start = start; end = end }) is)))))
+    (λ (outline : List Place) is. behind (Makes volume_of) (field Member.AltitudeLower altitude_at d) _ (λ (low : ℤ). behind (Makes volume_of) (field Member.AltitudeUpper altitude_at d) _ (λ (high : ℤ). λ (start end : ℤ). made_given (record { outline = outline; low = low; high = high; start = start; end = end }) is)))))
 
 pub volume_given : (m : Member) (d : Data) → Yields IsVolume (volume_at m d)
 unfolding volume_at
 volume_given m d =
     behind IsVolume (object_at m d) _ (λ u. after (Makes volume_of) IsVolume (field Member.Volume space_at d) _ (in_field (Makes volume_of) Member.Volume space_at (space_given Member.Volume) d)
-      (λ s makes. behind IsVolume (field Member.TimeStart time_at d) _ (λ (start : ℤ). behind IsVolume (field Member.TimeEnd time_at d) _ (λ (end : ℤ). makes start end))))
+    (λ s makes. behind IsVolume (field Member.TimeStart time_at d) _ (λ (start : ℤ). behind IsVolume (field Member.TimeEnd time_at d) _ (λ (end : ℤ). makes start end))))

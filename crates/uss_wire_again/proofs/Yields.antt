@@ -86,8 +86,8 @@ each_given : {A : Type 0} (P : A → Type 0) (f : Data → Result A WireRefusal)
 each_given P f h no_items = (tt, refl)
 each_given {A} P f h (item d ds) =
     after P (AllWith P (items_length ds + 1)) (f d) (λ x. each f ds >>= λ xs. Ok (x ∷ xs)) (h d)
-      (λ (x : A) px. after (AllWith P (items_length ds)) (AllWith P (items_length ds + 1)) (each f ds) (λ (xs : List A). Ok (x ∷ xs)) (each_given P f h ds)
-        (λ (xs : List A) pxs. ((px, pxs.0), longer (length xs) (items_length ds) pxs.1)))
+    (λ (x : A) px. after (AllWith P (items_length ds)) (AllWith P (items_length ds + 1)) (each f ds) (λ (xs : List A). Ok (x ∷ xs)) (each_given P f h ds)
+    (λ (xs : List A) pxs. ((px, pxs.0), longer (length xs) (items_length ds) pxs.1)))
 
 pub in_list : {A : Type 0} (P : A → Type 0) (m : Member) (read : Reader A) → ((d : Data) → Yields P (read m d)) → (d : Data) → Yields (AllOf P) (list_at read m d)
 in_list {A} P m read h d =
@@ -99,7 +99,7 @@ IsFew limit ds = items_length ds ≤ limit
 few_given : (limit : ℕ) (m : Member) (d : Data) → Yields (IsFew limit) (few_items_at limit m d)
 few_given limit m d =
     behind (IsFew limit) (items_at m d) (λ ds. if nat_le (items_length ds) limit then Ok ds else Err (TooMany m))
-      (λ ds. tested (IsFew limit) (nat_le (items_length ds) limit) ds (TooMany m) (at_most (items_length ds) limit))
+    (λ ds. tested (IsFew limit) (nat_le (items_length ds) limit) ds (TooMany m) (at_most (items_length ds) limit))
 
 abbrev pub FewOf : {A : Type 0} → (A → Type 0) → ℕ → List A → Type 0
 FewOf P limit xs = AllOf P xs × (length xs ≤ limit)
@@ -110,7 +110,7 @@ no_longer m n limit same h = omega arith
 pub in_few : {A : Type 0} (P : A → Type 0) (limit : ℕ) (m : Member) (read : Reader A) → ((d : Data) → Yields P (read m d)) → (d : Data) → Yields (FewOf P limit) (few_at limit read m d)
 in_few {A} P limit m read h d =
     after (IsFew limit) (FewOf P limit) (few_items_at limit m d) (each (read m)) (few_given limit m d)
-      (λ ds few. weaken (AllWith P (items_length ds)) (FewOf P limit) (each (read m) ds) (each_given P (read m) h ds) (λ (xs : List A) all. (all.0, no_longer (length xs) (items_length ds) limit all.1 few)))
+    (λ ds few. weaken (AllWith P (items_length ds)) (FewOf P limit) (each (read m) ds) (each_given P (read m) h ds) (λ (xs : List A) all. (all.0, no_longer (length xs) (items_length ds) limit all.1 few)))
 
 pub in_one : {A : Type 0} (P : A → Type 0) (m : Member) (read : Reader A) → ((d : Data) → Yields P (read m d)) → (d : Data) → Yields P (one_at read m d)
 in_one P m read h d = behind P (items_at m d) (λ ds. only_item m ds >>= read m) (λ ds. behind P (only_item m ds) (read m) h)

@@ -88,7 +88,10 @@ fn ticket_put_told(alloc: Global, bytes: &[u8]) -> Result<String, AllocError> {
 fn ticket_told(alloc: Global, bytes: &[u8]) -> Result<String, AllocError> {
     let client = own(alloc)?;
     let area = area(alloc)?;
-    told_of(alloc, read_subscription_answer(alloc, bytes, &client, &area))
+    told_of(
+        alloc,
+        read_subscription_answer(alloc, bytes, &client, &area),
+    )
 }
 
 fn error_told(alloc: Global, bytes: &[u8]) -> Result<String, AllocError> {

@@ -20,11 +20,7 @@ fn with_objects(alloc: Global, row: &str) -> Result<String, AllocError> {
         "@D",
         "{'off_nominal_volumes':[],'priority':7,'volumes':[@V]}",
     )?;
-    let references = details.replace(
-        alloc,
-        "@R",
-        "'id':'@F','manager':'uss1','ovn':'@O',@B",
-    )?;
+    let references = details.replace(alloc, "@R", "'id':'@F','manager':'uss1','ovn':'@O',@B")?;
     let hidden = references.replace(alloc, "@N", "'id':'@F','manager':'uss1',@B")?;
     let behind = hidden.replace(
         alloc,
