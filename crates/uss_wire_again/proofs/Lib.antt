@@ -3,5 +3,5 @@ pub mod Identifiers
 pub mod Yields
 pub mod Volumes
 pub mod References
-pub mod Messages
+pub mod Given
 pub mod Events

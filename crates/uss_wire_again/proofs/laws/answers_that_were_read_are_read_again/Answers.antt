@@ -5,7 +5,7 @@ use Rattle.uss_wire_answer.specs.Writing.{query_answer_json, get_answer_json, ch
 use Rattle.uss_wire_answer.proofs.Reread.{change_again, error_again}
 use Rattle.uss_wire_again.proofs.Again.{query_answer_again, get_answer_again}
 use Rattle.uss_wire_again.proofs.Yields.{FewOf}
-use Rattle.uss_wire_again.proofs.Messages.{given_again, found_given, got_given, IsTicketOf, ticket_given, ticket_again, IsGivenChange, change_given, error_given}
+use Rattle.uss_wire_again.proofs.Given.{given_again, found_given, got_given, IsTicketOf, ticket_given, ticket_again, IsGivenChange, change_given, error_given}
 use Rattle.uss_wire_again.proofs.laws.answers_that_were_read_are_read_again.Goals as goal
 
 pub returns-clause-query_answer : goal.returns-clause-query_answer

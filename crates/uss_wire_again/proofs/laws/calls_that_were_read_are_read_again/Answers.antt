@@ -2,7 +2,7 @@ use Rattle.uss_intent.specs.declared.calls.DssAsk.TheVariants.{Query, Put, Ticke
 use Rattle.uss_wire.specs.Messages.{query_at, put_reference_at, put_subscription_at}
 use Rattle.uss_wire.specs.Writing.{query_json, put_reference_json, put_subscription_json}
 use Rattle.uss_wire.proofs.Again.{query_again, put_reference_again, put_subscription_again}
-use Rattle.uss_wire_again.proofs.Messages.{given_again, IsGivenCall, query_given, put_given, ticket_put_given}
+use Rattle.uss_wire_again.proofs.Given.{given_again, IsGivenCall, query_given, put_given, ticket_put_given}
 use Rattle.uss_wire_again.proofs.laws.calls_that_were_read_are_read_again.Goals as goal
 
 pub returns-clause-query : goal.returns-clause-query

@@ -2,7 +2,7 @@ use Rattle.uss_wire_event.specs.Intents.{details_answer_at, notification_at}
 use Rattle.uss_wire_event.specs.Asks.{asks_at, positions_at}
 use Rattle.uss_wire_event.specs.Writing.{details_answer_json, notification_json, asks_json, positions_json, IsReadable, IsReadableNote}
 use Rattle.uss_wire_event.proofs.Reread.{details_answer_again, notification_again, asks_again, positions_again}
-use Rattle.uss_wire_again.proofs.Messages.{given_again}
+use Rattle.uss_wire_again.proofs.Given.{given_again}
 use Rattle.uss_wire_again.proofs.Events.{details_answer_given, notification_given, IsReadableAsk, asks_given, HasOffNominal, positions_given}
 use Rattle.uss_wire_again.proofs.laws.events_that_were_read_are_read_again.Goals as goal
 
