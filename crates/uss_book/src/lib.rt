@@ -10,6 +10,7 @@ mod readers;
 mod refusal;
 mod reread;
 mod start;
+mod tells;
 #[cfg(test)]
 mod tests;
 mod viewed;
