@@ -51,8 +51,8 @@ none_from p from s (suc n) fails =
 
 pub untold_at : (job from k : ℕ) (es : List Entry) → from ≤ k → k < length (owed_of job es) → is_told job k es ≡ false → ((j : ℕ) → from ≤ j → j < k → is_told job j es ≡ true) → find (nat_le from) (untold job es) ≡ Some k
 unfolding untold
-untold_at job from k es f less open told =
-    first_from (λ place. not (is_told job place es)) from k 0 (length (owed_of job es)) (omega arith) (omega arith) f (ap not open) (λ j g h. ap not (told j g h))
+untold_at job from k es f less unanswered told =
+    first_from (λ place. not (is_told job place es)) from k 0 (length (owed_of job es)) (omega arith) (omega arith) f (ap not unanswered) (λ j g h. ap not (told j g h))
 
 pub untold_none : (job from : ℕ) (es : List Entry) → ((j : ℕ) → from ≤ j → j < length (owed_of job es) → is_told job j es ≡ true) → find (nat_le from) (untold job es) ≡ None
 unfolding untold
