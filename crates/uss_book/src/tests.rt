@@ -147,7 +147,7 @@ fn got_by(fault: &BookFault) -> Got {
 }
 
 // What a mount answered, and the disk after it.
-fn got<D: Disk>(answer: Result<Book<D>, BookRefusal<D>>) -> (Got, D) {
+fn outcome_of<D: Disk>(answer: Result<Book<D>, BookRefusal<D>>) -> (Got, D) {
     match answer {
         Ok(book) => (kept(book.len()), book.release()),
         Err(why) => (got_by(&why.refusal), why.back),
@@ -224,7 +224,7 @@ fn is_judged(
     wanted: Got,
 ) -> Result<bool, AllocError> {
     let file = file_of(alloc, records)?;
-    let (found, disk) = got(mount(rt, alloc, &file, Vec::new(alloc))?);
+    let (found, disk) = outcome_of(mount(rt, alloc, &file, Vec::new(alloc))?);
     Ok(
         found.entries == row.entries
             && found.number == row.number
@@ -275,12 +275,12 @@ fn left(alloc: Global, calls: &[Call]) -> Result<Vec<u8>, AllocError> {
 // How many entries a mount finds after these calls, or the refusal.
 fn found_after(rt: &impl Abort, alloc: Global, calls: &[Call]) -> Result<Got, AllocError> {
     let file = left(alloc, calls)?;
-    Ok(got(mount(rt, alloc, &file, Vec::new(alloc))?).0)
+    Ok(outcome_of(mount(rt, alloc, &file, Vec::new(alloc))?).0)
 }
 
 // Whether a new book is begun, or its call with this number fails, and a mount after each stop finds one entry.
 fn is_begun(rt: &impl Abort, alloc: Global, number: u64) -> Result<bool, AllocError> {
-    let (found, disk) = got(mount(rt, alloc, b"", vec![in alloc; number]?)?);
+    let (found, disk) = outcome_of(mount(rt, alloc, b"", vec![in alloc; number]?)?);
     let wanted = if number == 0 {
         kept(1)
     } else {
@@ -357,7 +357,7 @@ fn a_stop_at_any_call_leaves_the_book_before_it_or_with_the_one_entry(
 }
 
 // What a book of these records tells of flight 7, of job 1 and of its attempts, each by its tag, or 0.
-struct Told {
+struct Telling {
     records: &'static [Coding],
     live: Option<u64>,
     last: Option<(u64, u64)>,
@@ -370,8 +370,8 @@ struct Told {
     untold_second: Option<u32>,
 }
 
-const TOLD: [Told; 6] = [
-    Told {
+const TOLD: [Telling; 6] = [
+    Telling {
         records: &[Coding::Owner],
         live: None,
         last: None,
@@ -383,7 +383,7 @@ const TOLD: [Told; 6] = [
         untold: None,
         untold_second: None,
     },
-    Told {
+    Telling {
         records: &[Coding::Owner, Coding::Plan],
         live: Some(1),
         last: Some((2, 1)),
@@ -395,7 +395,7 @@ const TOLD: [Told; 6] = [
         untold: None,
         untold_second: None,
     },
-    Told {
+    Telling {
         records: &[Coding::Owner, Coding::Plan, Coding::Ticket, Coding::Trial],
         live: Some(1),
         last: Some((2, 1)),
@@ -407,7 +407,7 @@ const TOLD: [Told; 6] = [
         untold: None,
         untold_second: None,
     },
-    Told {
+    Telling {
         records: &[
             Coding::Owner,
             Coding::Plan,
@@ -425,7 +425,7 @@ const TOLD: [Told; 6] = [
         untold: None,
         untold_second: None,
     },
-    Told {
+    Telling {
         records: &[
             Coding::Owner,
             Coding::Plan,
@@ -443,7 +443,7 @@ const TOLD: [Told; 6] = [
         untold: Some(0),
         untold_second: Some(1),
     },
-    Told {
+    Telling {
         records: &[
             Coding::Owner,
             Coding::Plan,
@@ -471,11 +471,11 @@ fn tag_of(attempt: Option<&Entry>) -> u64 {
     }
 }
 
-fn tells_of_the_flight<D: Disk>(book: &Book<D>, row: &Told) -> bool {
+fn tells_of_the_flight<D: Disk>(book: &Book<D>, row: &Telling) -> bool {
     book.live_job(7) == row.live && book.last(7) == row.last && book.open_job(8).is_none()
 }
 
-fn tells_of_the_attempts<D: Disk>(book: &Book<D>, row: &Told) -> bool {
+fn tells_of_the_attempts<D: Disk>(book: &Book<D>, row: &Telling) -> bool {
     book.attempts(1) == row.attempts
         && book.owns(1, 1) == row.owns
         && tag_of(book.attempt_at(1, 1)) == row.second
@@ -483,7 +483,7 @@ fn tells_of_the_attempts<D: Disk>(book: &Book<D>, row: &Told) -> bool {
         && tag_of(book.attempt_at(2, 0)) == 0
 }
 
-fn tells_of_the_owed<D: Disk>(book: &Book<D>, row: &Told) -> bool {
+fn tells_of_the_owed<D: Disk>(book: &Book<D>, row: &Telling) -> bool {
     book.owed(1).len() == row.owed
         && book.untold(1, 0) == row.untold
         && book.untold(1, 1) == row.untold_second
@@ -491,7 +491,7 @@ fn tells_of_the_owed<D: Disk>(book: &Book<D>, row: &Told) -> bool {
 }
 
 // Whether a book of the row's records tells what the row says, and a view of it has as many.
-fn is_told(rt: &impl Abort, alloc: Global, row: &Told) -> Result<bool, AllocError> {
+fn is_told(rt: &impl Abort, alloc: Global, row: &Telling) -> Result<bool, AllocError> {
     let file = file_of(alloc, row.records)?;
     let Ok(book) = mount(rt, alloc, &file, Vec::new(alloc))? else {
         return Ok(false);

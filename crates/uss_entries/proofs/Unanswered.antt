@@ -1,6 +1,7 @@
 -- Which notifications a job owes, and how many.
-use Rattle.std.proofs.Common.{ℕ, ◌+◌, ◌<◌, ◌≤◌, ◌==◌, ◌≢◌, Bool, true, false, not, cond, List, [], ◌∷◌, ◌++◌, ◌≡◌, length, filter, nat_le, refl, ap, ◌∙◌, arith, Option, Some, None, zero, suc}
+use Rattle.std.proofs.Common.{ℕ, ◌+◌, ◌<◌, ◌≤◌, ◌==◌, ◌≢◌, Bool, true, false, not, cond, List, [], ◌∷◌, ◌++◌, ◌≡◌, length, filter, nat_le, refl, ap, subst, ◌∙◌, inl, inr, arith, Option, Some, None, zero, suc}
 use Rattle.std.specs.List.{find, range_with_len}
+use Rattle.std.proofs.lemmas.Bool.{cases_lt}
 use Rattle.uss_event.specs.declared.entries.Ending.{Ending}
 use Rattle.uss_event.specs.declared.entries.Ending.TheVariants.{Ended}
 use Rattle.uss_event.specs.declared.entries.Entry.{Entry}
@@ -57,6 +58,13 @@ untold_at job from k es f less unanswered told =
 pub untold_none : (job from : ℕ) (es : List Entry) → ((j : ℕ) → from ≤ j → j < length (owed_of job es) → is_told job j es ≡ true) → find (nat_le from) (untold job es) ≡ None
 unfolding untold
 untold_none job from es told = none_from (λ place. not (is_told job place es)) from 0 (length (owed_of job es)) (λ j g h. ap not (told j g (omega arith)))
+
+-- one more place was told
+pub told_more : (job from place : ℕ) (es : List Entry) → ((k : ℕ) → from ≤ k → k < place → is_told job k es ≡ true) → is_told job place es ≡ true → (k : ℕ) → from ≤ k → k < place + 1 → is_told job k es ≡ true
+told_more job from place es told here k f h = elim (cases_lt k place) [
+  | inl less ↦ told k f less
+  | inr over ↦ (let same : place ≡ k = omega arith in subst (λ n. is_told job n es ≡ true) same here)
+]
 
 -- ---- a job owes few
 

@@ -1,7 +1,7 @@
 use Rattle.std.proofs.Common.{◌∙◌, sym, arith}
 use Rattle.uss_law_book.specs.Readings.{trials_of}
 use Rattle.uss_entries.proofs.InTurn.{got_final, none_final}
-use Rattle.uss_entries.proofs.attempts.Entries.last_attempt.Goals as goal
+use Rattle.uss_entries.proofs.entries.Entries.last_attempt.Goals as goal
 
 pub returns-then-made-0 : goal.returns-then-made-0
 returns-then-made-0 c = sym (none_final (trials_of c.args.job c.args.self.now.entries) (omega (arith, c.attempts-made.ensures)))

@@ -2,7 +2,7 @@ use Rattle.std.proofs.Common.{◌≤◌, length, arith}
 use Rattle.uss_law_book.specs.Readings.{owed_of}
 use Rattle.uss_law_book.specs.Legal.{IsLegal}
 use Rattle.uss_entries.proofs.Unanswered.{owed_few}
-use Rattle.uss_entries.proofs.owed.Entries.owed_count.Goals as goal
+use Rattle.uss_entries.proofs.entries.Entries.owed_count.Goals as goal
 
 pub overflow_cast-result : goal.overflow_cast-result
 overflow_cast-result c =
