@@ -7,7 +7,7 @@ ghost use Rattle.uss_legal.specs.Speaks.{holding_in, ending_in};
 use crate::Entries;
 use uss_event::{Ending, Entry};
 use uss_intent::Subscriber;
-use uss_legal::Tells;
+use uss_legal::{Tells, owed_by as owed_length};
 
 /// Whom a job owes a notification that ended so.
 fn owed_at_end(end: &Ending) -> &[Subscriber]
@@ -45,7 +45,7 @@ impl Entries {
         ensures { result ≡ length (owed_of job self.now.entries) }
     {
         let _ = &self.index;
-        self.owed(job).len() as u32
+        owed_length(self, job) as u32
     }
 
     /// The least place, `from` or above, of the notifications that the job owes and that weren't answered. It looks up each place from

@@ -1,4 +1,4 @@
-use Rattle.std.proofs.Common.{◌≤◌, length, arith}
+use Rattle.std.proofs.Common.{◌≤◌, ◌≡◌, length, arith}
 use Rattle.uss_law_book.specs.Readings.{owed_of}
 use Rattle.uss_law_book.specs.Legal.{IsLegal}
 use Rattle.uss_entries.proofs.Unanswered.{owed_few}
@@ -9,4 +9,5 @@ overflow_cast-result c =
     let es = c.args.self.now.entries in
     let l : IsLegal es = rw (← c.self.view_is) c.self.invariant.legal in
     let f : length (owed_of c.args.job es) ≤ 8192 = owed_few c.args.job es l in
-    omega (arith, c.owed.ensures)
+    let g : c.owed_by.result ≡ length (owed_of c.args.job es) = c.owed_by.ensures in
+    omega arith

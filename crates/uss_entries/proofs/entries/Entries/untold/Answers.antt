@@ -10,7 +10,7 @@ pub returns-then-not-is_told : goal.returns-then-not-is_told
 returns-then-not-is_told c =
     let es = c.args.self.now.entries in
     let place = c.loop-place.place in
-    let within : place < length (owed_of c.args.job es) = omega (arith, c.owed_count.ensures) in
+    let within : place < length (owed_of c.args.job es) = omega (arith, c.owed_count-place-end.ensures) in
     let f : c.args.from ≤ place = omega arith in
     sym (untold_at c.args.job c.args.from place es f within (sym c.is_told.ensures ∙ c.if-not-is_told.true) c.loop-place.invariant)
 
@@ -18,5 +18,5 @@ pub returns : goal.returns
 returns c =
     let es = c.args.self.now.entries in
     let place = c.loop-place.place in
-    let past : length (owed_of c.args.job es) ≤ place = omega (arith, c.owed_count.ensures) in
+    let past : length (owed_of c.args.job es) ≤ place = omega (arith, c.owed_count-place-end.ensures) in
     sym (untold_none c.args.job c.args.from es (λ k f h. c.loop-place.invariant k f (omega arith)))
