@@ -7,7 +7,7 @@ use Rattle.std.proofs.lemmas.List.{append-nil}
 use Rattle.std.proofs.lemmas.List.Elements.{filter-append}
 use Rattle.uss_event.specs.declared.entries.Entry.{Entry}
 use Rattle.uss_event.specs.declared.entries.Entry.TheVariants.{Pending}
-use Rattle.uss_law_dss.proofs.Tests.{same_number, equal_number, other_number, some_same}
+use Rattle.uss_law_dss.proofs.Tests.{same_number, other_number, some_same}
 use Rattle.uss_law_book.specs.Lists.{Trial, trials}
 use Rattle.uss_law_book.specs.Readings.{trials_of}
 use Rattle.uss_law_book.proofs.Entries.{trials_append}

@@ -1,5 +1,4 @@
-use Rattle.std.proofs.Common.{◌∙◌, ap, refl, Some}
-use Rattle.uss_entries.specs.declared.ordinal.Ordinal.{Ordinal}
+use Rattle.std.proofs.Common.{refl}
 use Rattle.uss_entries.proofs.indexed.ordinal_for.Goals as goal
 
 pub returns-in-Pending : goal.returns-in-Pending
