@@ -21,11 +21,11 @@ use Rattle.uss_entries.specs.Flights.{IsIn, last_in, recorded_in, IsFlight, AreF
 use Rattle.uss_entries.proofs.Places.{got_left, got_last, longer, last_is_in}
 use Rattle.uss_entries.proofs.Grown.{last_else, last_new, last_holding_else, last_holding_new, ended_else, ended_new, job_of_old}
 
-in_stays : {X : Type 0} (es : List Entry) (e : Entry) (read : Entry → Option X) (w : Option ℕ) (o p : Option X) → p ≡ o → IsIn es read w o → IsIn (es ++ e ∷ []) read w p
+pub in_stays : {X : Type 0} (es : List Entry) (e : Entry) (read : Entry → Option X) (w : Option ℕ) (o p : Option X) → p ≡ o → IsIn es read w o → IsIn (es ++ e ∷ []) read w p
 in_stays es e read None o p q h = q ∙ h
 in_stays es e read (Some n) o p q h = (ap (option_and_then read) (got_left es (e ∷ []) n h.1) ∙ h.0 ∙ sym q, longer es e n h.1)
 
-in_comes : {X : Type 0} (es : List Entry) (e : Entry) (read : Entry → Option X) (o : Option X) → o ≡ read e → IsIn (es ++ e ∷ []) read (Some (length es)) o
+pub in_comes : {X : Type 0} (es : List Entry) (e : Entry) (read : Entry → Option X) (o : Option X) → o ≡ read e → IsIn (es ++ e ∷ []) read (Some (length es)) o
 in_comes es e read o q = (ap (option_and_then read) (got_last es e) ∙ sym q, last_is_in es e)
 
 -- of another flight
