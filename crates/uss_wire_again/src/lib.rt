@@ -1,5 +1,5 @@
-//! That what is written is read again, where the reader and the writer of a message stand in different crates, and that whatever a
-//! reader gave is written and read again as the same. No code that runs.
+//! That what is written is read again, where the reader and the writer of a message stand in different crates, and tests of the
+//! messages of all crates.
 #![tactic(auto)]
 
 mod laws;
@@ -8,3 +8,16 @@ pub use laws::{
     answers_are_read_again, answers_that_were_read_are_read_again,
     calls_that_were_read_are_read_again, events_that_were_read_are_read_again,
 };
+
+#[cfg(test)]
+mod hostile;
+#[cfg(test)]
+mod kinds;
+#[cfg(test)]
+mod limits;
+#[cfg(test)]
+mod messages;
+#[cfg(test)]
+mod replies;
+#[cfg(test)]
+mod written;
