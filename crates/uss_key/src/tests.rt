@@ -1,4 +1,4 @@
-//! A cache over its limit.
+//! A cache over its limit, and one for which no room was made beforehand.
 
 use crate::Cache;
 use std::alloc::Global;
@@ -49,6 +49,24 @@ fn hear(alloc: Global, cache: &mut Cache, flight: u64, version: u32) -> Result<(
     cache.reserve()?;
     let pair = intent(alloc, flight_id(2, flight), version)?;
     cache.hear(pair)?;
+    Ok(())
+}
+
+fn hear_at_once(alloc: Global, cache: &mut Cache, flight: u64) -> Result<(), Fail> {
+    let pair = intent(alloc, flight_id(2, flight), 1)?;
+    cache.hear(pair)?;
+    Ok(())
+}
+
+#[test]
+fn a_pair_is_heard_where_no_room_was_made(rt: HostRuntime) -> Result<(), Fail> {
+    let mut cache = Cache::new(rt.alloc());
+    for flight in 1..4 {
+        hear_at_once(rt.alloc(), &mut cache, flight)?;
+    }
+    assert_eq!(rt; version(&cache, 1), 1);
+    assert_eq!(rt; version(&cache, 2), 1);
+    assert_eq!(rt; version(&cache, 3), 1);
     Ok(())
 }
 
