@@ -11,6 +11,7 @@ mod readers;
 mod refusal;
 mod reread;
 mod start;
+mod tells;
 #[cfg(test)]
 mod tests;
 mod viewed;

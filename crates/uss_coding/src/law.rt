@@ -1,7 +1,10 @@
 ghost use Rattle.std.specs.Prelude.{◌≡◌, length};
+ghost use Rattle.uss_intent.specs.declared.records.State.TheVariants as States;
+ghost use Rattle.uss_event.specs.declared.rules.Verdict.TheVariants as Verdicts;
 ghost use Rattle.uss_event.specs.declared.entries.Entry.{Entry};
 ghost use Rattle.uss_law_book.specs.Coding.{HasCoding, coding_length};
 ghost use Rattle.uss_coding.specs.Coding.{coding_of};
+ghost use Rattle.uss_coding.specs.Worked.{ticket_open, ticket_open_bytes, opened, opened_bytes, held, held_bytes, done, done_bytes};
 
 /// Each entry has one coding, and no two entries have the same. The function does nothing: its contract carries the law.
 pub fn one_coding_each()
@@ -11,4 +14,17 @@ pub fn one_coding_each()
 /// A coding is as long as the book's reserve counts it. The function does nothing: its contract carries the law.
 pub fn codings_have_their_length()
     ensures { (e : Entry) → length (coding_of e) ≡ coding_length e }
+{}
+
+/// Codings that were worked out by hand: no two fields or halves stand in each other's place, and each number has its meaning. The
+/// function does nothing: its contract carries the vectors.
+pub fn worked_codings()
+    ensures ticket_open { coding_of ticket_open ≡ ticket_open_bytes }
+    ensures accepted { coding_of (opened States.Accepted) ≡ opened_bytes 1 }
+    ensures activated { coding_of (opened States.Activated) ≡ opened_bytes 2 }
+    ensures nonconforming { coding_of (opened States.Nonconforming) ≡ opened_bytes 3 }
+    ensures contingent { coding_of (opened States.Contingent) ≡ opened_bytes 4 }
+    ensures held { coding_of held ≡ held_bytes }
+    ensures equal_forbidden { coding_of (done Verdicts.EqualForbidden) ≡ done_bytes 1 }
+    ensures higher_stands { coding_of (done Verdicts.HigherStands) ≡ done_bytes 2 }
 {}

@@ -1,7 +1,8 @@
 //! The entries of a supplier's book as bytes, each within the limits of its values.
 //!
 //! `specs/Coding.antt` says which bytes the coding of an entry is, and `specs/Reading.antt` how they are read field by field. What
-//! is read is spelled so, each byte of it, and what is spelled so is read; each entry has one coding.
+//! is read is spelled so, each byte of it, and what is spelled so is read; each entry has one coding. `specs/Worked.antt` has entries
+//! with their bytes by hand.
 #![tactic(auto)]
 
 mod asks;
@@ -16,5 +17,5 @@ mod tests;
 mod values;
 
 pub use coding::{read, write};
-pub use law::{codings_have_their_length, one_coding_each};
+pub use law::{codings_have_their_length, one_coding_each, worked_codings};
 pub use lengths::{length_of, opening_length};

@@ -1,5 +1,5 @@
 -- What is kept of each flight, as entries come.
-use Rattle.std.proofs.Common.{ℕ, ◌==◌, Bool, true, false, cond, ◌||◌, ◌&&◌, List, [], ◌∷◌, ◌++◌, ◌≡◌, inl, inr, length, refl, ap, sym, subst, ◌∙◌, Option, Some, None}
+use Rattle.std.proofs.Common.{ℕ, ◌==◌, Bool, true, false, cond, ◌||◌, ◌&&◌, List, [], ◌∷◌, ◌++◌, ◌≡◌, inl, inr, length, refl, ap, sym, subst, ◌∙◌, Option, Some, None, is_some}
 use Rattle.std.specs.Option.{option_and_then, option_map}
 use Rattle.std.specs.Ordering.{nat_cmp}
 use Rattle.std.specs.Cmp.{unsigned_ties}
@@ -21,11 +21,11 @@ use Rattle.uss_entries.specs.Flights.{IsIn, last_in, recorded_in, IsFlight, AreF
 use Rattle.uss_entries.proofs.Places.{got_left, got_last, longer, last_is_in}
 use Rattle.uss_entries.proofs.Grown.{last_else, last_new, last_holding_else, last_holding_new, ended_else, ended_new, job_of_old}
 
-in_stays : {X : Type 0} (es : List Entry) (e : Entry) (read : Entry → Option X) (w : Option ℕ) (o p : Option X) → p ≡ o → IsIn es read w o → IsIn (es ++ e ∷ []) read w p
+pub in_stays : {X : Type 0} (es : List Entry) (e : Entry) (read : Entry → Option X) (w : Option ℕ) (o p : Option X) → p ≡ o → IsIn es read w o → IsIn (es ++ e ∷ []) read w p
 in_stays es e read None o p q h = q ∙ h
 in_stays es e read (Some n) o p q h = (ap (option_and_then read) (got_left es (e ∷ []) n h.1) ∙ h.0 ∙ sym q, longer es e n h.1)
 
-in_comes : {X : Type 0} (es : List Entry) (e : Entry) (read : Entry → Option X) (o : Option X) → o ≡ read e → IsIn (es ++ e ∷ []) read (Some (length es)) o
+pub in_comes : {X : Type 0} (es : List Entry) (e : Entry) (read : Entry → Option X) (o : Option X) → o ≡ read e → IsIn (es ++ e ∷ []) read (Some (length es)) o
 in_comes es e read o q = (ap (option_and_then read) (got_last es e) ∙ sym q, last_is_in es e)
 
 -- of another flight
@@ -35,7 +35,9 @@ pub unchanged : (es : List Entry) (e : Entry) (g : ℕ) (row : Option Flight) �
 unchanged es e g row s was opened held done =
     record {
       last = in_stays es e opening_in (last_in row) (last_of g es) (last_of g (es ++ e ∷ [])) (last_else g es e opened) was.last;
+      last_found = was.last_found ∙ ap is_some (sym (last_else g es e opened));
       recorded = in_stays es e holding_in (recorded_in row) (last_holding g es) (last_holding g (es ++ e ∷ [])) (last_holding_else g es e s held) was.recorded;
+      recorded_found = was.recorded_found ∙ ap is_some (sym (last_holding_else g es e s held));
       ended = was.ended ∙ sym (ended_else g es e s done);
     }
 
@@ -55,7 +57,9 @@ opened_rows es o f s d =
       λ was.
           record {
             last = in_comes es e opening_in (last_of o.ask.flight (es ++ e ∷ [])) (last_new es o d);
+            last_found = ap is_some (sym (last_new es o d));
             recorded = in_stays es e holding_in f.recorded (last_holding o.ask.flight es) (last_holding o.ask.flight (es ++ e ∷ [])) (last_holding_else o.ask.flight es e s (λ x h. absurd h)) was.recorded;
+            recorded_found = was.recorded_found ∙ ap is_some (sym (last_holding_else o.ask.flight es e s (λ x h. absurd h)));
             ended = was.ended ∙ sym (ended_else o.ask.flight es e s (λ x h. absurd h));
           },
     )
@@ -68,7 +72,9 @@ held_rows es x o f s at =
       λ was.
           record {
             last = in_stays es e opening_in f.last (last_of o.ask.flight es) (last_of o.ask.flight (es ++ e ∷ [])) (last_else o.ask.flight es e (λ y h. absurd h)) was.last;
+            last_found = was.last_found ∙ ap is_some (sym (last_else o.ask.flight es e (λ y h. absurd h)));
             recorded = in_comes es e holding_in (last_holding o.ask.flight (es ++ e ∷ [])) (last_holding_new o.ask.flight es x s own);
+            recorded_found = ap is_some (sym (last_holding_new o.ask.flight es x s own));
             ended = was.ended ∙ sym (ended_else o.ask.flight es e s (λ y h. absurd h));
           },
     )
@@ -82,7 +88,9 @@ done_rows es x o f s at =
       λ was.
           record {
             last = in_stays es e opening_in f.last (last_of o.ask.flight es) (last_of o.ask.flight (es ++ e ∷ [])) (last_else o.ask.flight es e (λ y h. absurd h)) was.last;
+            last_found = was.last_found ∙ ap is_some (sym (last_else o.ask.flight es e (λ y h. absurd h)));
             recorded = in_stays es e holding_in f.recorded (last_holding o.ask.flight es) (last_holding o.ask.flight (es ++ e ∷ [])) (last_holding_else o.ask.flight es e s (λ y h. absurd h)) was.recorded;
+            recorded_found = was.recorded_found ∙ ap is_some (sym (last_holding_else o.ask.flight es e s (λ y h. absurd h)));
             ended = ap (λ b. b || is_ended x.end) was.ended ∙ sym (ended_new o.ask.flight es x s own);
           },
     )
@@ -119,7 +127,7 @@ flown old new es e flight f are s d at here put = λ g. go g (flight == g) refl
 
 pub none_flown : (m : BTreeMap ℕ Flight) → m.entries ≡ [] → AreFlights m []
 unfolding last_of has_ended jobs_of holdings_of
-none_flown m none = λ g. rw none (record { last = refl; recorded = refl; ended = refl })
+none_flown m none = λ g. rw none (record { last = refl; last_found = refl; recorded = refl; recorded_found = refl; ended = refl })
 
 -- an entry that changes no flight
 no_flight : {P : Type 0} (w : Option Opening) (o : Opening) → w ≡ Some o → option_map (λ (p : Opening). p.ask.flight) w ≡ None → P

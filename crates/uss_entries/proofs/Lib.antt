@@ -3,6 +3,7 @@ pub mod Marked
 pub mod Counted
 pub mod Grown
 pub mod Flown
+pub mod InTurn
 pub mod Numbered
 pub mod Told
 pub mod Opens
@@ -11,6 +12,7 @@ pub mod Sums
 pub mod Needed
 pub mod Settled
 pub mod Fits
+pub mod Unanswered
 pub mod Lasting
 pub mod Planned
 pub mod Recorded

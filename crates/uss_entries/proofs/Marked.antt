@@ -38,7 +38,7 @@ same_mark (Enters.Sent job place) (Marks.Sent k p) h =
     let b = both (job == k) (place == p) h in rw (same_number job k b.0, same_number place p b.1) refl
 same_mark (Enters.Sent job place) _ h = cc
 
-pair_ties : (a b c d : ℕ) → is_eq (ordering_then (nat_cmp a b) (nat_cmp c d)) ≡ ((a == b) && (c == d))
+pub pair_ties : (a b c d : ℕ) → is_eq (ordering_then (nat_cmp a b) (nat_cmp c d)) ≡ ((a == b) && (c == d))
 pair_ties a b c d = grind (arith, nat_tests)
 
 -- the order finds the mark of an entry

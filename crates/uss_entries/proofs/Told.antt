@@ -1,5 +1,5 @@
 -- What a book tells, by its marks.
-use Rattle.std.proofs.Common.{ℕ, ◌==◌, Bool, true, false, cond, ◌||◌, ◌&&◌, List, [], ◌∷◌, ◌≡◌, refl, sym, subst, ◌∙◌, Option, Some, None, is_some, slice_get, Bor}
+use Rattle.std.proofs.Common.{ℕ, ◌==◌, Bool, true, false, cond, ◌||◌, ◌&&◌, List, [], ◌∷◌, ◌≡◌, refl, ap, sym, subst, ◌∙◌, Option, Some, None, is_some, slice_get, Bor}
 use Rattle.std.specs.List.{list_any, find}
 use Rattle.std.specs.Option.{option_and_then, option_copied}
 use Rattle.uss_event.specs.declared.entries.Entry.{Entry}
@@ -13,6 +13,7 @@ use Rattle.uss_entries.specs.Flights.{IsIn}
 use Rattle.uss_event.specs.declared.entries.Entry.TheVariants.{Deciding}
 use Rattle.uss_legal.specs.Speaks.{speaks_of}
 use Rattle.uss_entries.specs.Told.{is_by_job}
+use Rattle.uss_entries.proofs.Places.{got_some}
 
 pub any_found : {X : Type 0} (p : X → Bool) (xs : List X) → is_some (find p xs) ≡ list_any p xs
 any_found p [] = refl
@@ -26,6 +27,11 @@ any_found {X} p (x ∷ xs) = go (p x) (any_found p xs)
 pub said_in : {X : Type 0} (es : List Entry) (read : Entry → Option X) (w : Option ℕ) (o : Option X) → IsIn es read w o → option_and_then read (option_and_then (slice_get es) w) ≡ o
 said_in es read None o h = sym h
 said_in es read (Some n) o h = h.0
+
+-- an entry is given exactly where there is one
+pub found_in : {X : Type 0} (es : List Entry) (read : Entry → Option X) (w : Option ℕ) (o : Option X) → IsIn es read w o → is_some w ≡ is_some o → is_some (option_and_then (slice_get es) w) ≡ is_some o
+found_in es read None o h k = k
+found_in es read (Some n) o h k = let g = got_some es n h.1 in ap is_some g.1 ∙ k
 
 pub copied_some : {X : Type 0} (o : Option (Bor X)) → is_some o ≡ is_some (option_copied o)
 copied_some None = refl

@@ -29,7 +29,9 @@ ended_in (Some f) = f.ended
 -- what is kept of a flight is what the entries tell
 pub record IsFlight (es : List Entry) (flight : ℕ) (row : Option Flight) : Type 0 where
   pub last : IsIn es opening_in (last_in row) (last_of flight es)
+  pub last_found : is_some (last_in row) ≡ is_some (last_of flight es)
   pub recorded : IsIn es holding_in (recorded_in row) (last_holding flight es)
+  pub recorded_found : is_some (recorded_in row) ≡ is_some (last_holding flight es)
   pub ended : ended_in row ≡ has_ended flight es
 
 abbrev pub AreFlights : BTreeMap ℕ Flight → List Entry → Type 0

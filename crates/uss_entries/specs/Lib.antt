@@ -3,6 +3,8 @@ pub mod MarkOrder
 pub mod Firsts
 pub mod Tallies
 pub mod Flights
+pub mod OrdinalOrder
+pub mod Ordinals
 pub mod Records
 pub mod Index
 pub mod Known

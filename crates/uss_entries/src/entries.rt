@@ -130,7 +130,7 @@ impl Entries {
         ensures room { OnOk result (IsReadyFor self.new e.now) }
     {
         self.ready = None;
-        let room = room_for(self.alloc, &self.entries, &self.index.firsts, e)?;
+        let room = room_for(self.alloc, &self.entries, &self.index, e)?;
         self.entries.reserve(1)?;
         self.index.make_room(&room)?;
         self.ready = Some(room);
@@ -149,7 +149,8 @@ impl Entries {
         let place = count(&self.entries);
         self.need = need_after(self.need, &self.entries, &self.index.firsts, &e);
         self.settled = settled_after(self.settled, &self.entries, &self.index, &e);
-        self.index.enter(&e, place, room.flight, room.pair);
+        self.index
+            .enter(&e, place, room.flight, room.ordinal, room.pair);
         put(&mut self.entries, e);
     }
 }

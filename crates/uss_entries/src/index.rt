@@ -1,5 +1,6 @@
 use crate::firsts::Firsts;
 use crate::flights::Flights;
+use crate::ordinals::Ordinals;
 use crate::records::Records;
 use crate::tallies::Tallies;
 
@@ -13,5 +14,6 @@ pub(crate) struct Index {
     pub(crate) firsts: Firsts,
     pub(crate) tallies: Tallies,
     pub(crate) flights: Flights,
+    pub(crate) ordinals: Ordinals,
     pub(crate) records: Records,
 }

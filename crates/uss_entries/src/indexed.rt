@@ -10,8 +10,9 @@ ghost use Rattle.uss_law_book.specs.Orderly.{IsOrderly};
 ghost use Rattle.uss_legal.specs.Speaks.{job_of, opening_in};
 ghost use Rattle.uss_entries.specs.Marks.{mark_of, has_mark};
 ghost use Rattle.uss_entries.specs.Firsts.{AreFirsts};
-ghost use Rattle.uss_entries.specs.Tallies.{CanGrow};
+ghost use Rattle.uss_entries.specs.Tallies.{AreTallies, CanGrow};
 ghost use Rattle.uss_entries.specs.Flights.{flight_in};
+ghost use Rattle.uss_entries.specs.Ordinals.{ordinal_for};
 ghost use Rattle.uss_entries.specs.Records.{pair_for};
 ghost use Rattle.uss_entries.specs.Index.{IsIndex, HasRoom, room_for, job_after, tag_after};
 
@@ -20,6 +21,8 @@ use crate::flights::Flights;
 use crate::index::Index;
 use crate::made::pair_for;
 use crate::marks::{Mark, mark_of};
+use crate::ordinal::Ordinal;
+use crate::ordinals::Ordinals;
 use crate::records::Records;
 use crate::room::Room;
 use crate::tallies::{Tallies, job_of};
@@ -69,22 +72,43 @@ fn flight_in(entries: &[Entry], firsts: &Firsts, e: &Entry) -> Option<u64>
     }
 }
 
+/// Which attempt of its job the entry makes.
+fn ordinal_for(tallies: &Tallies, e: &Entry) -> Option<Ordinal>
+    ensures { (es : List Entry) → AreTallies tallies.now.tallies es → result ≡ ordinal_for es e.now }
+{
+    match e {
+        Entry::Pending { job, .. } => Some(Ordinal {
+            job: *job,
+            number: tallies.tally(*job).attempts,
+        }),
+        Entry::Owner(_)
+        | Entry::Opened { .. }
+        | Entry::TicketOpen { .. }
+        | Entry::Held { .. }
+        | Entry::Deciding { .. }
+        | Entry::Done { .. }
+        | Entry::TicketGone { .. }
+        | Entry::Sent { .. } => None,
+    }
+}
+
 /// What the entry needs room for, and what it records.
 pub(crate) fn room_for(
     alloc: Global,
     entries: &[Entry],
-    firsts: &Firsts,
+    index: &Index,
     e: &Entry,
 ) -> Result<Room, AllocError>
     requires legal { IsLegal entries.now }
-    requires index { AreFirsts firsts.now.places entries.now }
+    requires index { IsIndex index.now entries.now }
     ensures { IfOk result (λ room. room ≡ room_for entries.now e.now) }
 {
     Ok(Room {
         mark: mark_of(e),
         job: job_of(e),
-        flight: flight_in(entries, firsts, e),
-        pair: pair_for(alloc, entries, firsts, e)?,
+        flight: flight_in(entries, &index.firsts, e),
+        ordinal: ordinal_for(&index.tallies, e),
+        pair: pair_for(alloc, entries, &index.firsts, e)?,
     })
 }
 
@@ -117,6 +141,7 @@ impl Index {
             firsts: Firsts::new(alloc),
             tallies: Tallies::new(alloc),
             flights: Flights::new(alloc),
+            ordinals: Ordinals::new(alloc),
             records: Records::new(alloc),
         }
     }
@@ -129,21 +154,31 @@ impl Index {
         self.firsts.make_room(room.mark)?;
         self.tallies.make_room(room.job)?;
         self.flights.make_room(room.flight)?;
+        self.ordinals.make_room(room.ordinal)?;
         self.records.make_room(room.flight)
     }
 
-    /// Takes an entry down, which comes at this place, changes what is kept of this flight and records this. Takes no memory.
-    pub(crate) fn enter(&mut self, e: &Entry, place: usize, flight: Option<u64>, pair: Option<Pair>)
+    /// Takes an entry down, which comes at this place, changes what is kept of this flight, makes this attempt and records this. Takes no
+    /// memory.
+    pub(crate) fn enter(
+        &mut self,
+        e: &Entry,
+        place: usize,
+        flight: Option<u64>,
+        ordinal: Option<Ordinal>,
+        pair: Option<Pair>,
+    )
         requires coding { HasCoding e.now }
         requires fits { CanGrow (get nat_cmp self.old.tallies.tallies (job_of e.now)) e.now }
-        requires room { HasRoom self.old (record { mark = mark_of e.now; job = job_of e.now; flight = flight; pair = pair }) }
-        ensures { (es : List Entry) → IsIndex self.old es → IsOrderly es → MayFollow es e.now → flight ≡ flight_in es e.now → pair ≡ pair_for es e.now → length es ≡ place → IsIndex self.new (es ++ e.now ∷ []) }
+        requires room { HasRoom self.old (record { mark = mark_of e.now; job = job_of e.now; flight = flight; ordinal = ordinal; pair = pair }) }
+        ensures { (es : List Entry) → IsIndex self.old es → IsOrderly es → MayFollow es e.now → flight ≡ flight_in es e.now → ordinal ≡ ordinal_for es e.now → pair ≡ pair_for es e.now → length es ≡ place → IsIndex self.new (es ++ e.now ∷ []) }
     {
         self.jobs = job_after(self.jobs, e);
         self.tags = tag_after(self.tags, e);
         self.firsts.enter(mark_of(e), place);
         self.tallies.enter(e);
         self.flights.enter(flight, e, place);
+        self.ordinals.enter(ordinal, place);
         self.records.enter(flight, pair);
     }
 }

@@ -2,6 +2,7 @@
 //! entries.
 #![tactic(auto)]
 
+mod attempts;
 mod entries;
 mod firsts;
 mod flight;
@@ -10,6 +11,9 @@ mod index;
 mod indexed;
 mod made;
 mod marks;
+mod ordinal;
+mod ordinals;
+mod owed;
 mod records;
 mod reserve;
 mod room;

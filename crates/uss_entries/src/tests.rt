@@ -4,6 +4,7 @@ use crate::Entries;
 use std::alloc::{AllocError, Global};
 use std::test::Fail;
 use uss_coding::read;
+use uss_event::Entry;
 use uss_legal::{Plain, Tells};
 
 struct Row {
@@ -211,6 +212,35 @@ fn agree_on_flight<S: Tells, T: Tells>(book: &S, plain: &T, flight: u64) -> bool
         && book.last_recorded(flight).is_some() == plain.last_recorded(flight).is_some()
 }
 
+// The tag of an attempt, or 0.
+fn tag_of(attempt: Option<&Entry>) -> u64 {
+    match attempt {
+        Some(Entry::Pending { tag, .. }) => *tag,
+        _ => 0,
+    }
+}
+
+// At the end: jobs 1 and 3 made an attempt each, job 2 none.
+fn tells_of_attempts(book: &Entries) -> bool {
+    tag_of(book.attempt_at(1, 0)) == 1
+        && tag_of(book.attempt_at(1, 1)) == 0
+        && tag_of(book.last_attempt(1)) == 1
+        && tag_of(book.last_attempt(2)) == 0
+        && tag_of(book.attempt_at(3, 0)) == 2
+        && tag_of(book.last_attempt(3)) == 2
+}
+
+// At the end: the one whom job 1 owes was told, of the two whom job 2 owes the second, and job 3 owes nobody.
+fn tells_of_owed(book: &Entries) -> bool {
+    book.owed(1).len() == 1
+        && book.untold(1, 0).is_none()
+        && book.owed(2).len() == 2
+        && book.untold(2, 0) == Some(0)
+        && book.untold(2, 1).is_none()
+        && book.owed(3).is_empty()
+        && book.untold(3, 0).is_none()
+}
+
 #[test]
 fn a_book_tells_what_its_list_tells(rt: HostRuntime) -> Result<(), Fail> {
     let mut book = Entries::new(rt.alloc());
@@ -232,5 +262,7 @@ fn a_book_tells_what_its_list_tells(rt: HostRuntime) -> Result<(), Fail> {
     assert_eq!(rt; book.len(), 15);
     assert!(rt; book.entry(14).is_some());
     assert!(rt; book.entry(15).is_none());
+    assert!(rt; tells_of_attempts(&book));
+    assert!(rt; tells_of_owed(&book));
     Ok(())
 }

@@ -1,2 +1,3 @@
 pub mod PieceSteps
 pub mod ReadSteps
+pub mod SendSteps

@@ -1,8 +1,12 @@
 use super::*;
 use std::alloc::Global;
+use std::net::{Net, TcpListener};
 use std::test::Fail;
+use std::thread;
 use uss_intent::Name;
-use uss_link::{Dial, MemoryDial, MemorySink, MemorySource, Reply};
+use uss_link::{
+    Dial, MemoryDial, MemorySink, MemorySource, ReaderSource, Reply, TcpDial, WriterSink,
+};
 
 fn bytes(alloc: Global, text: &str) -> Result<Bytes, Fail> {
     Ok(Bytes::from_vec(Vec::from_slice(alloc, text.as_bytes())?))
@@ -33,6 +37,14 @@ fn sent(alloc: Global, failing: u64) -> Result<(bool, Vec<u8>), Fail> {
     Ok((reached && written, Vec::from_slice(alloc, talk.sent())?))
 }
 
+/// Whether this is the request.
+fn is_sent(found: &Request) -> bool {
+    found.method.as_slice() == b"PUT".as_slice()
+        && found.path.as_slice() == b"/dss/v1/subscriptions/query?x".as_slice()
+        && found.client.as_bytes() == b"uss1".as_slice()
+        && found.body.as_slice() == b"{}".as_slice()
+}
+
 /// Whether these bytes are read as the request.
 fn is_request(alloc: Global, text: &str) -> Result<bool, Fail> {
     let mut source = MemorySource::new(
@@ -40,12 +52,7 @@ fn is_request(alloc: Global, text: &str) -> Result<bool, Fail> {
         Vec::from_slice(alloc, text.as_bytes())?,
     ).in_pieces_of(4);
     match read_request(alloc, &mut source) {
-        Ok(found) => Ok(
-            found.method.as_slice() == b"PUT".as_slice()
-                && found.path.as_slice() == b"/dss/v1/subscriptions/query?x".as_slice()
-                && found.client.as_bytes() == b"uss1".as_slice()
-                && found.body.as_slice() == b"{}".as_slice(),
-        ),
+        Ok(found) => Ok(is_sent(&found)),
         Err(_) => Ok(false),
     }
 }
@@ -132,5 +139,57 @@ fn a_stream_that_fails_is_a_fault_of_the_dial(rt: HostRuntime) -> Result<(), Fai
     let mut dial = MemoryDial::new(alloc, Vec::new(alloc));
     // no stream is open
     assert!(rt; matches!(read_response(alloc, &mut dial), Err(HttpRefusal::DialFault)));
+    Ok(())
+}
+
+/// Takes one connection, and answers the request that comes over it with its own body. Whether it is the request that was
+/// sent, and was answered.
+fn serves(alloc: Global, listener: &TcpListener) -> bool {
+    let Ok((stream, _)) = listener.accept() else {
+        return false;
+    };
+    let Ok(request) = read_request(alloc, &mut ReaderSource::new(&stream)) else {
+        return false;
+    };
+    let is_right = is_sent(&request);
+    let response = Response {
+        status: 404,
+        body: request.body,
+    };
+    is_right && write_response(&mut WriterSink::new(&stream), &response).is_ok()
+}
+
+/// Whether the response that comes over the dial is the one that the server gives.
+fn is_answered(alloc: Global, dial: &mut impl Dial) -> bool {
+    match read_response(alloc, dial) {
+        Ok(found) => found.status == 404 && found.body.as_slice() == b"{}".as_slice(),
+        Err(_) => false,
+    }
+}
+
+/// Makes one exchange with the server at this port. Whether the response is the one that the server gives, and nothing
+/// is sent once the stream was closed.
+fn asks(net: &impl Net, alloc: Global, port: u16, request: &Request) -> bool {
+    let mut dial = TcpDial::new(net);
+    let went = dial.reach("127.0.0.1", port).is_ok()
+        && write_request(alloc, &mut dial, b"127.0.0.1", request).is_ok();
+    let is_whole = went && is_answered(alloc, &mut dial);
+    dial.close();
+    is_whole && dial.send(b"late").is_err()
+}
+
+#[test]
+fn an_exchange_goes_over_loopback(rt: HostRuntime) -> Result<(), Fail> {
+    let alloc = rt.alloc();
+    let listener = TcpListener::bind(&rt, "127.0.0.1:0")?;
+    let port = listener.local_addr()?.port();
+    let sent = request(alloc)?;
+    let (rt, listener, sent) = (&rt, &listener, &sent);
+    let (served, heard) = thread::join(
+        rt,
+        move || serves(alloc, listener),
+        move || asks(rt, alloc, port, sent),
+    );
+    assert!(rt; served && heard);
     Ok(())
 }

@@ -1,8 +1,8 @@
-ghost use Rattle.std.specs.Prelude.{◌≡◌, ℕ, ◌≤◌, ◌++◌, List, length, Some, Err, codes, decimal, IfOk, OnOk, OnErr};
+ghost use Rattle.std.specs.Prelude.{◌≡◌, ℕ, ◌≤◌, ◌⊎◌, ◌++◌, List, length, Some, Err, codes, decimal, IfOk, IfErr, OnOk, OnErr};
 ghost use Rattle.std.specs.List.{flat_map};
 ghost use Rattle.uss_cause.specs.Cause.{Counts, Rose};
 ghost use Rattle.uss_link.specs.Bytes.{TookFront};
-ghost use Rattle.uss_link.specs.Talks.{Talk, SentFront};
+ghost use Rattle.uss_link.specs.Talks.{Talk, SentFront, Stays};
 ghost use Rattle.uss_http.specs.Writing.{request_text, phrase_of, rest_text, response_text};
 
 use crate::refusal::HttpRefusal;
@@ -27,9 +27,9 @@ fn add_both(text: &mut Vec<u8>, first: &[u8], second: &[u8]) -> Result<(), Alloc
     text.extend_from_slice(second)
 }
 
-/// The bytes of a request to this host.
-fn request_bytes(alloc: Global, host: &[u8], request: &Request) -> Result<Vec<u8>, AllocError>
-    ensures { IfOk result (λ bytes. bytes.items ≡ request_text host.now request.now) }
+/// The bytes of a request to this host, up to its body.
+fn head_bytes(alloc: Global, host: &[u8], request: &Request) -> Result<Vec<u8>, AllocError>
+    ensures { IfOk result (λ head. head.items ++ request.now.body ≡ request_text host.now request.now) }
 {
     let mut number = Buffer::new();
     let digits = number.format(request.body.len()).as_bytes();
@@ -38,11 +38,26 @@ fn request_bytes(alloc: Global, host: &[u8], request: &Request) -> Result<Vec<u8
     add_both(&mut text, b" HTTP/1.1\r\nHost: ", host)?;
     add_both(&mut text, b"\r\nUSS-Client: ", request.client.as_bytes())?;
     add_both(&mut text, TYPE_AND_LENGTH, digits)?;
-    add_both(&mut text, END_OF_FIELDS, request.body.as_slice())?;
+    text.extend_from_slice(END_OF_FIELDS)?;
     Ok(text)
 }
 
-/// Sends a request over the open stream of a dial. On a fault a front of its bytes was sent.
+/// Sends two pieces one after the other over the open stream, which stays open. On a fault a front of them was sent.
+fn send_both<G: Dial>(dial: &mut G, first: &[u8], second: &[u8]) -> Result<(), DialFault>
+    ensures counts { Counts (G.faults dial.old) (G.faults dial.new) result }
+    ensures sent { (talks : List Talk) → G.talks dial.old ≡ Some talks → OnOk result (SentFront talks (G.talks dial.new) (first.now ++ second.now) (length (first.now ++ second.now))) }
+    ensures front { (talks : List Talk) → G.talks dial.old ≡ Some talks → OnErr result ((n : ℕ) × SentFront talks (G.talks dial.new) (first.now ++ second.now) n) }
+    ensures stream { Stays (G.is_open dial.old) (G.is_open dial.new) }
+{
+    match send_all(dial, first) {
+        Ok(()) => {}
+        Err(DialFault) => return Err(DialFault),
+    }
+    send_all(dial, second)
+}
+
+/// Sends a request over the open stream of a dial, which stays open; its body without a copy of it. On a fault a front of its
+/// bytes was sent; for want of memory nothing was.
 pub fn write_request<G: Dial>(
     alloc: Global,
     dial: &mut G,
@@ -51,14 +66,17 @@ pub fn write_request<G: Dial>(
 ) -> Result<(), HttpRefusal>
     ensures sent { (talks : List Talk) → G.talks dial.old ≡ Some talks → OnOk result (SentFront talks (G.talks dial.new) (request_text host.now request.now) (length (request_text host.now request.now))) }
     ensures front { (talks : List Talk) → G.talks dial.old ≡ Some talks → OnErr result ((n : ℕ) × SentFront talks (G.talks dial.new) (request_text host.now request.now) n) }
+    ensures stream { Stays (G.is_open dial.old) (G.is_open dial.new) }
+    ensures unsent { result ≡ Err HttpRefusal.Memory → G.talks dial.new ≡ G.talks dial.old }
     ensures kept { G.faults dial.old ≤ G.faults dial.new }
+    ensures causes { IfErr result (λ e. (e ≡ HttpRefusal.DialFault) ⊎ (e ≡ HttpRefusal.Memory)) }
     ensures fault { result ≡ Err HttpRefusal.DialFault → Rose (G.faults dial.old) (G.faults dial.new) }
 {
-    let bytes = match request_bytes(alloc, host, request) {
-        Ok(bytes) => bytes,
+    let head = match head_bytes(alloc, host, request) {
+        Ok(head) => head,
         Err(AllocError) => return Err(HttpRefusal::Memory),
     };
-    match send_all(dial, bytes.as_slice()) {
+    match send_both(dial, head.as_slice(), request.body.as_slice()) {
         Ok(()) => Ok(()),
         Err(DialFault) => Err(HttpRefusal::DialFault),
     }

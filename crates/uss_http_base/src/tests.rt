@@ -1,226 +1,325 @@
 use super::*;
-use std::alloc::Global;
-use std::process::Abort;
+use std::alloc::{AllocError, Global};
+use std::slice;
 use std::test::Fail;
 use uss_link::MemorySource;
 
-/// Requests and the number of the refusal that each is answered with, or 200. `|` stands for CR LF and `~` for LF.
-const ROWS: &str = "\
-200 GET / HTTP/1.1|USS-Client: uss1||
-200 GET / HTTP/1.0|USS-Client: uss1||
-200 ||GET / HTTP/1.1|USS-Client: uss1||
-200 GET / HTTP/1.1~USS-Client: uss1~~
-200 ~GET / HTTP/1.1~USS-Client:uss1|~
-200 GET / HTTP/1.1|uss-client: uss1||
-200 GET / HTTP/1.1|USS-CLIENT:   uss1   ||
-200 M*X /x?y#z HTTP/1.1|USS-Client: a.b-c_d|Other: @,;||
-200 GET / HTTP/1.1|USS-Client: uss1|Content-Length: 0||
-200 GET / HTTP/1.1|USS-Client: uss1|Content-Length: 000||
-200 POST / HTTP/1.1|USS-Client: uss1|Content-Length: 5||hello
-200 POST / HTTP/1.1|USS-Client: uss1|content-LENGTH:  5 ||hello and more
-200 POST / HTTP/1.1|USS-Client: uss1|Transfer-Encoding: chunked||5|hello|0||
-200 POST / HTTP/1.1|USS-Client: uss1|transfer-encoding: CHUNKED||5;x=1|hello|0|Trailer: x||
-200 POST / HTTP/1.1|USS-Client: uss1|Transfer-Encoding: chunked||2|he|3  |llo|00||
-200 POST / HTTP/1.1|USS-Client: uss1|Transfer-Encoding: chunked||000005|hello|0|USS-Client: other||
-432 GET  / HTTP/1.1|USS-Client: uss1||
-432 GET / HTTP/1.2|USS-Client: uss1||
-432 GET / HTTP/2.0|USS-Client: uss1||
-432 GET / http/1.1|USS-Client: uss1||
-432 GET / HTTP/1.1 |USS-Client: uss1||
-432 GET /|USS-Client: uss1||
-432  GET / HTTP/1.1|USS-Client: uss1||
-432 G(T / HTTP/1.1|USS-Client: uss1||
-432 / HTTP/1.1|USS-Client: uss1||
-432 GET HTTP/1.1|USS-Client: uss1||
-432 GET / HTTP/1.1|USS-Client uss1||
-432 GET / HTTP/1.1|: uss1||
-432 GET / HTTP/1.1|USS Client: uss1||
-432 GET / HTTP/1.1|USS-Client : uss1||
-432 GET / HTTP/1.1| USS-Client: uss1||
-432 GET / HTTP/1.1|USS-Client: uss1| folded||
-432 GET / HTTP/1.1|USS-Client: uss1|Content-Length: 5|Content-Length: 5||hello
-432 GET / HTTP/1.1|USS-Client: uss1|Content-Length: 5|content-length: 6||hello
-432 GET / HTTP/1.1|USS-Client: uss1|Content-Length: 5|Transfer-Encoding: chunked||5|hello|0||
-432 GET / HTTP/1.1|USS-Client: uss1|Transfer-Encoding: chunked|Content-Length: 0||0||
-432 GET / HTTP/1.1|USS-Client: uss1|Transfer-Encoding: chunked|Transfer-Encoding: chunked||0||
-432 GET / HTTP/1.1|USS-Client: uss1|Transfer-Encoding: gzip||
-432 GET / HTTP/1.1|USS-Client: uss1|Transfer-Encoding: gzip, chunked||0||
-432 GET / HTTP/1.1|USS-Client: uss1|Transfer-Encoding: chunked, chunked||0||
-432 GET / HTTP/1.1|USS-Client: uss1|Transfer-Encoding: identity||
-432 GET / HTTP/1.1|USS-Client: uss1|Transfer-Encoding:||
-432 GET / HTTP/1.1|USS-Client: uss1|Transfer-Encoding: chunked;q=1||0||
-432 GET / HTTP/1.1|USS-Client: uss1|Content-Length:||
-432 GET / HTTP/1.1|USS-Client: uss1|Content-Length: -1||
-432 GET / HTTP/1.1|USS-Client: uss1|Content-Length: +5||hello
-432 GET / HTTP/1.1|USS-Client: uss1|Content-Length: 5 5||hello
-432 GET / HTTP/1.1|USS-Client: uss1|Content-Length: 0x5||hello
-432 GET / HTTP/1.1|USS-Client: uss1|Content-Length: 5.0||hello
-432 GET / HTTP/1.1|USS-Client: uss1|Content-Length: 5,5||hello
-432 GET / HTTP/1.1|USS-Client: uss1|Content-Length: five||hello
-432 GET / HTTP/1.1|Content-Length: 5|Content-Length: 5||hello
-438 GET / HTTP/1.1||
-438 GET / HTTP/1.1|Host: uss1||
-438 GET / HTTP/1.1|USS-Client:||
-438 GET / HTTP/1.1|USS-Client: uss1|USS-Client: uss1||
-438 GET / HTTP/1.1|USS-Client: uss1|uss-client: uss2||
-438 GET / HTTP/1.1|USS-Client: uss 1||
-438 GET / HTTP/1.1|USS-Client: uss/1||
-438 GET / HTTP/1.1|USS-Client: uss1, uss2||
-438 GET / HTTP/1.1|USS-Client: aaaaaaaaaaaaaaaaaaaaaaaaaaaaaaaaaaaaaaaaaaaaaaaaaaaaaaaaaaaaaaaaa||
-438 GET / HTTP/1.1|Content-Length: 8388609||
-438 GET / HTTP/1.1|Transfer-Encoding: chunked||zz|
-433 GET / HTTP/1.1|USS-Client: uss1|Content-Length: 8388609||
-433 GET / HTTP/1.1|USS-Client: uss1|Content-Length: 4294967296||
-433 GET / HTTP/1.1|USS-Client: uss1|Content-Length: 18446744073709551616||
-433 GET / HTTP/1.1|USS-Client: uss1|Content-Length: 99999999999999999999999999||
-433 GET / HTTP/1.1|USS-Client: uss1|Transfer-Encoding: chunked||800001|
-433 GET / HTTP/1.1|USS-Client: uss1|Transfer-Encoding: chunked||ffffffffffffffff|
-433 GET / HTTP/1.1|USS-Client: uss1|Transfer-Encoding: chunked||5|hello|7ffffc|
-434 GET / HTTP/1.1|USS-Client: uss1|Transfer-Encoding: chunked||zz|
-434 GET / HTTP/1.1|USS-Client: uss1|Transfer-Encoding: chunked|||
-434 GET / HTTP/1.1|USS-Client: uss1|Transfer-Encoding: chunked||5|hello0||
-434 GET / HTTP/1.1|USS-Client: uss1|Transfer-Encoding: chunked||5|hello~0||
-434 GET / HTTP/1.1|USS-Client: uss1|Transfer-Encoding: chunked||5|helloX
-434 GET / HTTP/1.1|USS-Client: uss1|Transfer-Encoding: chunked||5~hello|0||
-434 GET / HTTP/1.1|USS-Client: uss1|Transfer-Encoding: chunked||11111111111111111|
-434 GET / HTTP/1.1|USS-Client: uss1|Transfer-Encoding: chunked|| 5|hello|0||
-434 GET / HTTP/1.1|USS-Client: uss1|Transfer-Encoding: chunked||-5|hello|0||
-434 GET / HTTP/1.1|USS-Client: uss1|Transfer-Encoding: chunked||5 x|hello|0||
-434 GET / HTTP/1.1|USS-Client: uss1|Transfer-Encoding: chunked||5|hello|0|no trailer||
-434 GET / HTTP/1.1|USS-Client: uss1|Transfer-Encoding: chunked||0|: x||
-435 G
-435 GET /
-435 GET / HTTP/1.1|USS-Client: uss1|
-435 GET / HTTP/1.1|USS-Client: uss1|Content-Length: 5||hel
-435 GET / HTTP/1.1|USS-Client: uss1|Content-Length: 8388608||
-435 GET / HTTP/1.1|USS-Client: uss1|Transfer-Encoding: chunked||
-435 GET / HTTP/1.1|USS-Client: uss1|Transfer-Encoding: chunked||5
-435 GET / HTTP/1.1|USS-Client: uss1|Transfer-Encoding: chunked||5|hel
-435 GET / HTTP/1.1|USS-Client: uss1|Transfer-Encoding: chunked||5|hello
-435 GET / HTTP/1.1|USS-Client: uss1|Transfer-Encoding: chunked||5|hello|
-435 GET / HTTP/1.1|USS-Client: uss1|Transfer-Encoding: chunked||5|hello|0|
-435 GET / HTTP/1.1|USS-Client: uss1|Transfer-Encoding: chunked||800000|hello";
+// Requests by the number of the answer. `|` stands for CR LF and `~` for LF.
+
+/// Requests that are read.
+const READ: [&[u8]; 16] = [
+    b"GET / HTTP/1.1|USS-Client: uss1||",
+    b"GET / HTTP/1.0|USS-Client: uss1||",
+    b"||GET / HTTP/1.1|USS-Client: uss1||",
+    b"GET / HTTP/1.1~USS-Client: uss1~~",
+    b"~GET / HTTP/1.1~USS-Client:uss1|~",
+    b"GET / HTTP/1.1|uss-client: uss1||",
+    b"GET / HTTP/1.1|USS-CLIENT:   uss1   ||",
+    b"M*X /x?y#z HTTP/1.1|USS-Client: a.b-c_d|Other: @,;||",
+    b"GET / HTTP/1.1|USS-Client: uss1|Content-Length: 0||",
+    b"GET / HTTP/1.1|USS-Client: uss1|Content-Length: 000||",
+    b"POST / HTTP/1.1|USS-Client: uss1|Content-Length: 5||hello",
+    b"POST / HTTP/1.1|USS-Client: uss1|content-LENGTH:  5 ||hello and more",
+    b"POST / HTTP/1.1|USS-Client: uss1|Transfer-Encoding: chunked||5|hello|0||",
+    b"POST / HTTP/1.1|USS-Client: uss1|transfer-encoding: CHUNKED||5;x=1|hello|0|Trailer: x||",
+    b"POST / HTTP/1.1|USS-Client: uss1|Transfer-Encoding: chunked||2|he|3  |llo|00||",
+    b"POST / HTTP/1.1|USS-Client: uss1|Transfer-Encoding: chunked||000005|hello|0|USS-Client: other||",
+];
+
+/// Requests that are refused with 432.
+const BAD_HEADS: [&[u8]; 36] = [
+    b"GET  / HTTP/1.1|USS-Client: uss1||",
+    b"GET / HTTP/1.2|USS-Client: uss1||",
+    b"GET / HTTP/2.0|USS-Client: uss1||",
+    b"GET / http/1.1|USS-Client: uss1||",
+    b"GET / HTTP/1.1 |USS-Client: uss1||",
+    b"GET /|USS-Client: uss1||",
+    b" GET / HTTP/1.1|USS-Client: uss1||",
+    b"G(T / HTTP/1.1|USS-Client: uss1||",
+    b"/ HTTP/1.1|USS-Client: uss1||",
+    b"GET HTTP/1.1|USS-Client: uss1||",
+    b"GET / HTTP/1.1|USS-Client uss1||",
+    b"GET / HTTP/1.1|: uss1||",
+    b"GET / HTTP/1.1|USS Client: uss1||",
+    b"GET / HTTP/1.1|USS-Client : uss1||",
+    b"GET / HTTP/1.1| USS-Client: uss1||",
+    b"GET / HTTP/1.1|USS-Client: uss1| folded||",
+    b"GET / HTTP/1.1|USS-Client: uss1|Content-Length: 5|Content-Length: 5||hello",
+    b"GET / HTTP/1.1|USS-Client: uss1|Content-Length: 5|content-length: 6||hello",
+    b"GET / HTTP/1.1|USS-Client: uss1|Content-Length: 5|Transfer-Encoding: chunked||5|hello|0||",
+    b"GET / HTTP/1.1|USS-Client: uss1|Transfer-Encoding: chunked|Content-Length: 0||0||",
+    b"GET / HTTP/1.1|USS-Client: uss1|Transfer-Encoding: chunked|Transfer-Encoding: chunked||0||",
+    b"GET / HTTP/1.1|USS-Client: uss1|Transfer-Encoding: gzip||",
+    b"GET / HTTP/1.1|USS-Client: uss1|Transfer-Encoding: gzip, chunked||0||",
+    b"GET / HTTP/1.1|USS-Client: uss1|Transfer-Encoding: chunked, chunked||0||",
+    b"GET / HTTP/1.1|USS-Client: uss1|Transfer-Encoding: identity||",
+    b"GET / HTTP/1.1|USS-Client: uss1|Transfer-Encoding:||",
+    b"GET / HTTP/1.1|USS-Client: uss1|Transfer-Encoding: chunked;q=1||0||",
+    b"GET / HTTP/1.1|USS-Client: uss1|Content-Length:||",
+    b"GET / HTTP/1.1|USS-Client: uss1|Content-Length: -1||",
+    b"GET / HTTP/1.1|USS-Client: uss1|Content-Length: +5||hello",
+    b"GET / HTTP/1.1|USS-Client: uss1|Content-Length: 5 5||hello",
+    b"GET / HTTP/1.1|USS-Client: uss1|Content-Length: 0x5||hello",
+    b"GET / HTTP/1.1|USS-Client: uss1|Content-Length: 5.0||hello",
+    b"GET / HTTP/1.1|USS-Client: uss1|Content-Length: 5,5||hello",
+    b"GET / HTTP/1.1|USS-Client: uss1|Content-Length: five||hello",
+    b"GET / HTTP/1.1|Content-Length: 5|Content-Length: 5||hello",
+];
+
+/// Those refused with 438.
+const NO_CLIENTS: [&[u8]; 11] = [
+    b"GET / HTTP/1.1||",
+    b"GET / HTTP/1.1|Host: uss1||",
+    b"GET / HTTP/1.1|USS-Client:||",
+    b"GET / HTTP/1.1|USS-Client: uss1|USS-Client: uss1||",
+    b"GET / HTTP/1.1|USS-Client: uss1|uss-client: uss2||",
+    b"GET / HTTP/1.1|USS-Client: uss 1||",
+    b"GET / HTTP/1.1|USS-Client: uss/1||",
+    b"GET / HTTP/1.1|USS-Client: uss1, uss2||",
+    b"GET / HTTP/1.1|USS-Client: aaaaaaaaaaaaaaaaaaaaaaaaaaaaaaaaaaaaaaaaaaaaaaaaaaaaaaaaaaaaaaaaa||",
+    b"GET / HTTP/1.1|Content-Length: 8388609||",
+    b"GET / HTTP/1.1|Transfer-Encoding: chunked||zz|",
+];
+
+/// Those refused with 433.
+const LARGE_BODIES: [&[u8]; 7] = [
+    b"GET / HTTP/1.1|USS-Client: uss1|Content-Length: 8388609||",
+    b"GET / HTTP/1.1|USS-Client: uss1|Content-Length: 4294967296||",
+    b"GET / HTTP/1.1|USS-Client: uss1|Content-Length: 18446744073709551616||",
+    b"GET / HTTP/1.1|USS-Client: uss1|Content-Length: 99999999999999999999999999||",
+    b"GET / HTTP/1.1|USS-Client: uss1|Transfer-Encoding: chunked||800001|",
+    b"GET / HTTP/1.1|USS-Client: uss1|Transfer-Encoding: chunked||ffffffffffffffff|",
+    b"GET / HTTP/1.1|USS-Client: uss1|Transfer-Encoding: chunked||5|hello|7ffffc|",
+];
+
+/// Those refused with 434.
+const BAD_CHUNKS: [&[u8]; 12] = [
+    b"GET / HTTP/1.1|USS-Client: uss1|Transfer-Encoding: chunked||zz|",
+    b"GET / HTTP/1.1|USS-Client: uss1|Transfer-Encoding: chunked|||",
+    b"GET / HTTP/1.1|USS-Client: uss1|Transfer-Encoding: chunked||5|hello0||",
+    b"GET / HTTP/1.1|USS-Client: uss1|Transfer-Encoding: chunked||5|hello~0||",
+    b"GET / HTTP/1.1|USS-Client: uss1|Transfer-Encoding: chunked||5|helloX",
+    b"GET / HTTP/1.1|USS-Client: uss1|Transfer-Encoding: chunked||5~hello|0||",
+    b"GET / HTTP/1.1|USS-Client: uss1|Transfer-Encoding: chunked||11111111111111111|",
+    b"GET / HTTP/1.1|USS-Client: uss1|Transfer-Encoding: chunked|| 5|hello|0||",
+    b"GET / HTTP/1.1|USS-Client: uss1|Transfer-Encoding: chunked||-5|hello|0||",
+    b"GET / HTTP/1.1|USS-Client: uss1|Transfer-Encoding: chunked||5 x|hello|0||",
+    b"GET / HTTP/1.1|USS-Client: uss1|Transfer-Encoding: chunked||5|hello|0|no trailer||",
+    b"GET / HTTP/1.1|USS-Client: uss1|Transfer-Encoding: chunked||0|: x||",
+];
+
+/// Those refused with 435.
+const TRUNCATED: [&[u8]; 12] = [
+    b"G",
+    b"GET /",
+    b"GET / HTTP/1.1|USS-Client: uss1|",
+    b"GET / HTTP/1.1|USS-Client: uss1|Content-Length: 5||hel",
+    b"GET / HTTP/1.1|USS-Client: uss1|Content-Length: 8388608||",
+    b"GET / HTTP/1.1|USS-Client: uss1|Transfer-Encoding: chunked||",
+    b"GET / HTTP/1.1|USS-Client: uss1|Transfer-Encoding: chunked||5",
+    b"GET / HTTP/1.1|USS-Client: uss1|Transfer-Encoding: chunked||5|hel",
+    b"GET / HTTP/1.1|USS-Client: uss1|Transfer-Encoding: chunked||5|hello",
+    b"GET / HTTP/1.1|USS-Client: uss1|Transfer-Encoding: chunked||5|hello|",
+    b"GET / HTTP/1.1|USS-Client: uss1|Transfer-Encoding: chunked||5|hello|0|",
+    b"GET / HTTP/1.1|USS-Client: uss1|Transfer-Encoding: chunked||800000|hello",
+];
+
+/// The bytes that a byte of a row stands for.
+fn meant(byte: &u8) -> &[u8] {
+    match *byte {
+        b'|' => b"\r\n",
+        b'~' => b"\n",
+        _ => slice::from_ref(byte),
+    }
+}
 
 /// The bytes that a row stands for.
-fn bytes_of(alloc: Global, row: &str) -> Result<Vec<u8>, Fail> {
+fn bytes_of(alloc: Global, row: &[u8]) -> Result<Vec<u8>, AllocError> {
     let mut bytes = Vec::new(alloc);
-    for byte in row.as_bytes() {
-        match *byte {
-            b'|' => bytes.extend_from_slice(b"\r\n")?,
-            b'~' => bytes.push(b'\n')?,
-            other => bytes.push(other)?,
-        }
+    for byte in row {
+        bytes.extend_from_slice(meant(byte))?;
     }
     Ok(bytes)
 }
 
+/// The bytes that a row stands for, and then so many bytes `x`, and the bytes of another row.
+fn filled(alloc: Global, row: &[u8], count: usize, rest: &[u8]) -> Result<Vec<u8>, AllocError> {
+    let mut bytes = bytes_of(alloc, row)?;
+    let filling = vec![in alloc; b'x'; count]?;
+    bytes.extend_from_slice(filling.as_slice())?;
+    let rest = bytes_of(alloc, rest)?;
+    bytes.extend_from_slice(rest.as_slice())?;
+    Ok(bytes)
+}
+
 /// Reads one request from these bytes, which come in pieces of this size, where the call with this number fails.
-fn read(
-    alloc: Global,
-    bytes: Vec<u8>,
-    piece: usize,
-    failing: u64,
-) -> Result<Result<Request, ReadRefusal>, Fail> {
-    let mut source = MemorySource::new(alloc, bytes)
-        .failing_at(vec![in alloc; failing]?)
+fn read(alloc: Global, bytes: &[u8], piece: usize, failing: u64) -> Result<Request, ReadRefusal> {
+    let mut source = MemorySource::new(alloc, Vec::from_slice(alloc, bytes)?)
+        .failing_at(Vec::from_slice(alloc, &[failing])?)
         .in_pieces_of(piece);
-    Ok(request_from(alloc, &mut source))
+    request_from(alloc, &mut source)
+}
+
+/// The number of a refusal.
+fn refused(refusal: ReadRefusal) -> u16 {
+    match refusal {
+        ReadRefusal::HeadTooLarge => 431,
+        ReadRefusal::BadHead => 432,
+        ReadRefusal::BodyTooLarge => 433,
+        ReadRefusal::BadChunk => 434,
+        ReadRefusal::Truncated => 435,
+        ReadRefusal::NoClient => 438,
+        ReadRefusal::Fault => 1,
+        ReadRefusal::Memory => 2,
+    }
 }
 
 /// The number of the answer: 200, or that of the refusal.
-fn number(answer: &Result<Request, ReadRefusal>) -> u16 {
-    match answer {
+fn number(alloc: Global, bytes: &[u8], piece: usize, failing: u64) -> u16 {
+    match read(alloc, bytes, piece, failing) {
         Ok(_) => 200,
-        Err(ReadRefusal::HeadTooLarge) => 431,
-        Err(ReadRefusal::BadHead) => 432,
-        Err(ReadRefusal::BodyTooLarge) => 433,
-        Err(ReadRefusal::BadChunk) => 434,
-        Err(ReadRefusal::Truncated) => 435,
-        Err(ReadRefusal::NoClient) => 438,
-        Err(ReadRefusal::Fault) => 1,
-        Err(ReadRefusal::Memory) => 2,
+        Err(refusal) => refused(refusal),
     }
+}
+
+/// Whether the row has this answer, whatever pieces it comes in.
+fn is_answered(alloc: Global, row: &[u8], wanted: u16) -> bool {
+    match bytes_of(alloc, row) {
+        Ok(bytes) => {
+            number(alloc, bytes.as_slice(), 1, 0) == wanted
+                && number(alloc, bytes.as_slice(), 7, 0) == wanted
+                && number(alloc, bytes.as_slice(), 100000, 0) == wanted
+        }
+        Err(AllocError) => false,
+    }
+}
+
+/// Whether all these rows have this answer.
+fn are_answered(alloc: Global, rows: &[&[u8]], wanted: u16) -> bool {
+    for row in rows {
+        if !is_answered(alloc, row, wanted) {
+            return false;
+        }
+    }
+    true
 }
 
 #[test]
 fn requests_are_read_or_refused(rt: HostRuntime) -> Result<(), Fail> {
     let alloc = rt.alloc();
-    let mut rows = 0u32;
-    for line in ROWS.lines() {
-        let (wanted, row) = line.split_once(' ').ok_or("no number")?;
-        for piece in [1usize, 7, 100000] {
-            let answer = read(alloc, bytes_of(alloc, row)?, piece, 0)?;
-            assert_eq!(rt; number(&answer), wanted.parse::<u16>()?, "{row}");
-        }
-        rows = rows.saturating_add(1);
-    }
-    assert_eq!(rt; rows, 94);
+    assert!(rt; are_answered(alloc, &READ, 200));
+    assert!(rt; are_answered(alloc, &BAD_HEADS, 432));
+    assert!(rt; are_answered(alloc, &NO_CLIENTS, 438));
+    assert!(rt; are_answered(alloc, &LARGE_BODIES, 433));
+    assert!(rt; are_answered(alloc, &BAD_CHUNKS, 434));
+    assert!(rt; are_answered(alloc, &TRUNCATED, 435));
     Ok(())
 }
 
-/// A head with a field of so many bytes.
-fn long_head(alloc: Global, filling: usize) -> Result<Vec<u8>, Fail> {
-    let mut bytes = bytes_of(alloc, "GET / HTTP/1.1|USS-Client: uss1|A:")?;
-    bytes.extend_from_slice(vec![in alloc; b'a'; filling]?.as_slice())?;
-    bytes.extend_from_slice(b"\r\n\r\n")?;
-    Ok(bytes)
+/// The number of the answer to a head with a field of so many bytes; 40 bytes stand round them.
+fn long_head(alloc: Global, filling: usize) -> u16 {
+    match filled(alloc, b"GET / HTTP/1.1|USS-Client: uss1|A:", filling, b"||") {
+        Ok(bytes) => number(alloc, bytes.as_slice(), 1000, 0),
+        Err(AllocError) => 2,
+    }
 }
 
-/// Whether the answer is a request with this body.
-fn has_body(rt: &impl Abort, answer: &Result<Request, ReadRefusal>, body: &[u8]) {
-    match answer {
-        Ok(request) => {
-            assert_eq!(rt; request.method.as_slice(), b"POST".as_slice());
-            assert_eq!(rt; request.path.as_slice(), b"/a?b".as_slice());
-            assert_eq!(rt; request.client.as_str(), "uss1");
-            assert!(rt; request.body.as_slice() == body);
-        }
-        Err(refusal) => panic!(rt; "{refusal:?}"),
+/// The number of the answer to so many letters.
+fn letters(alloc: Global, count: usize) -> u16 {
+    match filled(alloc, b"", count, b"") {
+        Ok(bytes) => number(alloc, bytes.as_slice(), 1000, 0),
+        Err(AllocError) => 2,
+    }
+}
+
+/// The number of the answer to a body that is cut short, where the call with this number fails.
+fn cut_body(alloc: Global, failing: u64) -> u16 {
+    match bytes_of(
+        alloc,
+        b"POST /a?b HTTP/1.1|USS-Client: uss1|Content-Length: 5||hel",
+    ) {
+        Ok(bytes) => number(alloc, bytes.as_slice(), 100, failing),
+        Err(AllocError) => 2,
     }
 }
 
 #[test]
 fn limits_and_faults(rt: HostRuntime) -> Result<(), Fail> {
     let alloc = rt.alloc();
-    // 40 bytes stand round the filling
-    for (filling, wanted) in [(16344usize, 200u16), (16345, 431), (20000, 431)] {
-        let answer = read(alloc, long_head(alloc, filling)?, 1000, 0)?;
-        assert_eq!(rt; number(&answer), wanted, "{filling}");
-    }
-    let letters = read(alloc, vec![in alloc; b'A'; 16384]?, 1000, 0)?;
-    assert_eq!(rt; number(&letters), 431);
+    assert_eq!(rt; long_head(alloc, 16344), 200);
+    assert_eq!(rt; long_head(alloc, 16345), 431);
+    assert_eq!(rt; long_head(alloc, 20000), 431);
+    assert_eq!(rt; letters(alloc, 16384), 431);
     // the same bytes, and then the end or a fault
-    let cut = "POST /a?b HTTP/1.1|USS-Client: uss1|Content-Length: 5||hel";
-    let ended = read(alloc, bytes_of(alloc, cut)?, 100, 0)?;
-    assert_eq!(rt; number(&ended), 435);
-    let failed = read(alloc, bytes_of(alloc, cut)?, 100, 2)?;
-    assert_eq!(rt; number(&failed), 1);
+    assert_eq!(rt; cut_body(alloc, 0), 435);
+    assert_eq!(rt; cut_body(alloc, 2), 1);
     Ok(())
+}
+
+/// Whether the answer is a request with this body.
+fn is_request(answer: Result<Request, ReadRefusal>, body: &[u8]) -> bool {
+    match answer {
+        Ok(request) => {
+            request.method.as_slice() == b"POST".as_slice()
+                && request.path.as_slice() == b"/a?b".as_slice()
+                && request.client.as_bytes() == b"uss1".as_slice()
+                && request.body.as_slice() == body
+        }
+        Err(_) => false,
+    }
+}
+
+/// Whether the row is read as a request with this body, in pieces of this size.
+fn has_body(alloc: Global, row: &[u8], piece: usize, body: &[u8]) -> bool {
+    match bytes_of(alloc, row) {
+        Ok(bytes) => is_request(read(alloc, bytes.as_slice(), piece, 0), body),
+        Err(AllocError) => false,
+    }
+}
+
+/// Whether a body of so many bytes is read whole.
+fn has_large_body(alloc: Global, row: &[u8], count: usize) -> bool {
+    let (Ok(bytes), Ok(body)) = (
+        filled(alloc, row, count, b""),
+        filled(alloc, b"", count, b""),
+    ) else {
+        return false;
+    };
+    is_request(read(alloc, bytes.as_slice(), 100000, 0), body.as_slice())
+}
+
+const CHUNKED: &[u8] =
+    b"POST /a?b HTTP/1.1|USS-Client: uss1|Transfer-Encoding: chunked||5|hello|0||";
+
+const SIZED: &[u8] = b"POST /a?b HTTP/1.1|USS-Client: uss1|Content-Length: 5||hello more";
+
+/// Whether the row is read as a request with the body `hello`, whatever pieces it comes in.
+fn says_hello(alloc: Global, row: &[u8]) -> bool {
+    has_body(alloc, row, 1, b"hello")
+        && has_body(alloc, row, 2, b"hello")
+        && has_body(alloc, row, 100, b"hello")
 }
 
 #[test]
 fn bodies_are_those_that_were_sent(rt: HostRuntime) -> Result<(), Fail> {
     let alloc = rt.alloc();
-    let chunked = "POST /a?b HTTP/1.1|USS-Client: uss1|Transfer-Encoding: chunked||5|hello|0||";
-    let sized = "POST /a?b HTTP/1.1|USS-Client: uss1|Content-Length: 5||hello more";
-    for row in [chunked, sized] {
-        for piece in [1usize, 2, 100] {
-            has_body(
-                &rt,
-                &read(alloc, bytes_of(alloc, row)?, piece, 0)?,
-                b"hello",
-            );
-        }
-    }
-    let empty = "POST /a?b HTTP/1.1|USS-Client: uss1||ignored";
-    has_body(&rt, &read(alloc, bytes_of(alloc, empty)?, 100, 0)?, b"");
+    assert!(rt; says_hello(alloc, CHUNKED));
+    assert!(rt; says_hello(alloc, SIZED));
+    assert!(rt;
+        has_body(
+            alloc,
+            b"POST /a?b HTTP/1.1|USS-Client: uss1||ignored",
+            100,
+            b""
+        )
+    );
     // as large as a body may be
-    let mut large = bytes_of(
-        alloc,
-        "POST /a?b HTTP/1.1|USS-Client: uss1|Content-Length: 8388608||",
-    )?;
-    let body = vec![in alloc; b'x'; 8388608]?;
-    large.extend_from_slice(body.as_slice())?;
-    has_body(&rt, &read(alloc, large, 100000, 0)?, body.as_slice());
+    assert!(rt;
+        has_large_body(
+            alloc,
+            b"POST /a?b HTTP/1.1|USS-Client: uss1|Content-Length: 8388608||",
+            8388608
+        )
+    );
     Ok(())
 }

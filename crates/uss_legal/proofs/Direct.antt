@@ -1,7 +1,7 @@
 -- What a book tells, by tests on its entries.
-use Rattle.std.proofs.Common.{ℕ, suc, ◌==◌, Bool, true, false, cond, ◌||◌, ◌&&◌, List, [], ◌∷◌, ◌≡◌, filter, length, refl, ap, Some}
+use Rattle.std.proofs.Common.{ℕ, suc, ◌==◌, Bool, true, false, cond, ◌||◌, ◌&&◌, List, [], ◌∷◌, ◌≡◌, ◌∙◌, filter, length, refl, ap, sym, Option, Some, None, is_some, Bor}
 use Rattle.std.specs.List.{list_any, find}
-use Rattle.std.specs.Option.{option_and_then}
+use Rattle.std.specs.Option.{option_and_then, option_copied}
 use Rattle.uss_event.specs.declared.entries.Entry.{Entry}
 use Rattle.uss_event.specs.declared.entries.Entry.TheVariants.{Opened, TicketOpen, Pending, Held, Deciding, Done, TicketGone, Sent}
 use Rattle.uss_law_book.specs.Lists.{Opening, Trial, Holding, Closing, openings, trials, tickets_gone}
@@ -109,6 +109,55 @@ ending_by_find job (Done j end ∷ es) = found (j == job) (ending_by_find job es
     found true h = refl
     found false h = h
 ending_by_find job (_ ∷ es) = ending_by_find job es
+
+-- an entry is given exactly where there is one
+pub copied_some : {X : Type 0} (o : Option (Bor X)) → is_some o ≡ is_some (option_copied o)
+copied_some None = refl
+copied_some (Some x) = refl
+
+-- what passes the test says what was asked for
+pub found_says : {X : Type 0} (p : Entry → Bool) (read : Entry → Option X) → ((e : Entry) → p e ≡ true → is_some (read e) ≡ true) → (es : List Entry) → is_some (find p es) ≡ is_some (option_and_then read (find p es))
+found_says p read says [] = refl
+found_says {X} p read says (e ∷ es) = go (p e) refl (found_says p read says es)
+  where
+    go : (b : Bool) → p e ≡ b → is_some (find p es) ≡ is_some (option_and_then read (find p es)) → is_some (cond b (Some e) (find p es)) ≡ is_some (option_and_then read (cond b (Some e) (find p es)))
+    go true h rest = sym (says e h)
+    go false h rest = rest
+
+opening_says : (job : ℕ) (e : Entry) → speaks_of 2 job e ≡ true → is_some (opening_in e) ≡ true
+opening_says job (Opened j moment ask) h = refl
+opening_says job _ h = cc
+
+trial_says : (tag : ℕ) (e : Entry) → tries_with tag e ≡ true → is_some (trial_in e) ≡ true
+trial_says tag (Pending j t alternative previous key) h = refl
+trial_says tag _ h = cc
+
+holding_says : (job : ℕ) (e : Entry) → speaks_of 5 job e ≡ true → is_some (holding_in e) ≡ true
+holding_says job (Held j tag ovn version owed) h = refl
+holding_says job _ h = cc
+
+decision_says : (job : ℕ) (e : Entry) → speaks_of 6 job e ≡ true → is_some (decision_in e) ≡ true
+decision_says job (Deciding j end) h = refl
+decision_says job _ h = cc
+
+ending_says : (job : ℕ) (e : Entry) → speaks_of 7 job e ≡ true → is_some (ending_in e) ≡ true
+ending_says job (Done j end) h = refl
+ending_says job _ h = cc
+
+pub opening_found : (job : ℕ) (es : List Entry) → is_some (find (speaks_of 2 job) es) ≡ is_some (opening_of job es)
+opening_found job es = found_says (speaks_of 2 job) opening_in (opening_says job) es ∙ ap is_some (sym (opening_by_find job es))
+
+pub trial_found : (tag : ℕ) (es : List Entry) → is_some (find (tries_with tag) es) ≡ is_some (trial_of tag es)
+trial_found tag es = found_says (tries_with tag) trial_in (trial_says tag) es ∙ ap is_some (sym (trial_by_find tag es))
+
+pub holding_found : (job : ℕ) (es : List Entry) → is_some (find (speaks_of 5 job) es) ≡ is_some (holding_of job es)
+holding_found job es = found_says (speaks_of 5 job) holding_in (holding_says job) es ∙ ap is_some (sym (holding_by_find job es))
+
+pub decision_found : (job : ℕ) (es : List Entry) → is_some (find (speaks_of 6 job) es) ≡ is_some (decision_of job es)
+decision_found job es = found_says (speaks_of 6 job) decision_in (decision_says job) es ∙ ap is_some (sym (decision_by_find job es))
+
+pub ending_found : (job : ℕ) (es : List Entry) → is_some (find (speaks_of 7 job) es) ≡ is_some (ending_of job es)
+ending_found job es = found_says (speaks_of 7 job) ending_in (ending_says job) es ∙ ap is_some (sym (ending_by_find job es))
 
 -- counts
 pub jobs_by_count : (es : List Entry) → length (filter (is_of 2) es) ≡ length (openings es)

@@ -1,5 +1,5 @@
 -- The last request of a flight, the last that was recorded of it, its open job, and whether it has ended, by tests on the entries.
-use Rattle.std.proofs.Common.{ℕ, ◌+◌, ◌-◌, ◌<◌, ◌≤◌, ◌==◌, Bool, true, false, cond, not, ◌||◌, ◌&&◌, List, [], ◌∷◌, ◌≡◌, filter, length, get_or, drop, refl, ap, sym, ◌∙◌, Option, Some, None, arith}
+use Rattle.std.proofs.Common.{ℕ, ◌+◌, ◌-◌, ◌<◌, ◌≤◌, ◌==◌, Bool, true, false, cond, not, ◌||◌, ◌&&◌, List, [], ◌∷◌, ◌≡◌, filter, length, get_or, drop, refl, ap, sym, ◌∙◌, Option, Some, None, is_some, arith}
 use Rattle.std.specs.Prelude.{nat_lt}
 use Rattle.std.specs.List.{list_any, find, last_or}
 use Rattle.std.specs.Option.{option_and_then}
@@ -8,6 +8,7 @@ use Rattle.uss_event.specs.declared.entries.Entry.{Entry}
 use Rattle.uss_event.specs.declared.entries.Entry.TheVariants.{Opened, Held, Done}
 use Rattle.uss_law_book.specs.Lists.{Opening, Holding, openings, endings}
 use Rattle.uss_law_book.specs.Readings.{is_closed, jobs_of, open_job_of, greater, greatest, last_of, is_ended, is_job_of, has_ended, holdings_of, last_holding}
+use Rattle.uss_legal.proofs.Direct.{found_says}
 use Rattle.uss_legal.specs.Speaks.{job_of, opens_for, opening_in, holding_in, number_in, is_less, better, best_of, ends_flight, newer, recorded_in}
 
 -- ---- the open job
@@ -35,6 +36,14 @@ pub open_job_by_find : (flight : ℕ) (es : List Entry) → open_job_of flight e
 unfolding open_job_of jobs_of
 open_job_by_find flight es = unclosed_by_find es flight es
 
+-- an open job's opening is given exactly where there is one
+pub open_job_found : (flight : ℕ) (es : List Entry) → is_some (find (λ e. opens_for flight e && not (is_closed (job_of e) es)) es) ≡ is_some (open_job_of flight es)
+open_job_found flight es = found_says (λ e. opens_for flight e && not (is_closed (job_of e) es)) opening_in says es ∙ ap is_some (sym (open_job_by_find flight es))
+  where
+    says : (e : Entry) → (opens_for flight e && not (is_closed (job_of e) es)) ≡ true → is_some (opening_in e) ≡ true
+    says (Opened job moment ask) h = refl
+    says _ h = cc
+
 -- ---- the last request
 
 -- the best entry says the greatest opening
@@ -49,6 +58,12 @@ says_is None None h = refl
 says_is None (Some o) h = absurd h
 says_is (Some e) None h = absurd h
 says_is (Some e) (Some o) h = h.0
+
+says_some : (b : Option Entry) (o : Option Opening) → Says b o → is_some b ≡ is_some o
+says_some None None h = refl
+says_some None (Some o) h = absurd h
+says_some (Some e) None h = absurd h
+says_some (Some e) (Some o) h = refl
 
 chosen : (t : Bool) (e b : Entry) (o p : Opening) → Says (Some e) (Some o) → Says (Some b) (Some p) → Says (cond (not t) (Some e) (Some b)) (cond t (Some p) (Some o))
 chosen true e b o p h k = k
@@ -75,6 +90,10 @@ best_says flight (_ ∷ es) = best_says flight es
 pub last_by_best : (flight : ℕ) (es : List Entry) → last_of flight es ≡ option_and_then opening_in (best_of flight es)
 unfolding last_of jobs_of
 last_by_best flight es = sym (says_is (best_of flight es) (greatest (filter (λ o. o.ask.flight == flight) (openings es))) (best_says flight es))
+
+pub last_found : (flight : ℕ) (es : List Entry) → is_some (best_of flight es) ≡ is_some (last_of flight es)
+unfolding last_of jobs_of
+last_found flight es = says_some (best_of flight es) (greatest (filter (λ o. o.ask.flight == flight) (openings es))) (best_says flight es)
 
 -- ---- whether the flight has ended
 
@@ -112,6 +131,15 @@ recorded_goes_on book flight es i e best total lt is so_far =
 pub recorded_is : (flight : ℕ) (es : List Entry) → last_holding flight es ≡ last_or None (recorded_in es flight es)
 unfolding holdings_of
 recorded_is flight es = refl
+
+-- what was recorded so far says so
+newer_chosen : (b : Bool) (e : Entry) (best : Option Entry) → is_some (holding_in e) ≡ true → is_some best ≡ is_some (view best) → is_some (cond b (Some e) best) ≡ is_some (view (cond b (Some e) best))
+newer_chosen true e best says h = sym says
+newer_chosen false e best says h = h
+
+pub newer_says : (book : List Entry) (flight : ℕ) (e : Entry) (best : Option Entry) → is_some best ≡ is_some (view best) → is_some (newer book flight e best) ≡ is_some (view (newer book flight e best))
+newer_says book flight (Held job tag ovn version owed) best h = newer_chosen (is_job_of flight job book) (Held job tag ovn version owed) best refl h
+newer_says book flight _ best h = h
 
 -- ---- the best opening, from the last entry to the first
 

@@ -1,5 +1,5 @@
 // What a list of entries tells of a flight.
-ghost use Rattle.std.specs.Prelude.{◌≡◌, ◌&&◌};
+ghost use Rattle.std.specs.Prelude.{◌≡◌, ◌&&◌, is_some};
 ghost use Rattle.std.specs.List.{list_any};
 ghost use Rattle.std.specs.Option.{option_copied, option_and_then};
 ghost use Rattle.uss_law_book.specs.Readings.{is_job_of, has_ended, last_of, last_holding, is_for};
@@ -110,7 +110,8 @@ fn newer<'a>(
 
 /// What was recorded last of the flight, whether it has ended or not.
 pub(crate) fn last_recorded(entries: &[Entry], flight: u64) -> Option<&Entry>
-    ensures { option_and_then holding_in (option_copied result) ≡ last_holding flight entries.now }
+    ensures says { option_and_then holding_in (option_copied result) ≡ last_holding flight entries.now }
+    ensures found { is_some result ≡ is_some (last_holding flight entries.now) }
 {
     let mut best: Option<&Entry> = None;
     for entry in entries {

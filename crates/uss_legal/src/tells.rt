@@ -1,4 +1,4 @@
-ghost use Rattle.std.specs.Prelude.{◌≡◌, List, length};
+ghost use Rattle.std.specs.Prelude.{◌≡◌, List, length, is_some};
 ghost use Rattle.std.specs.Option.{option_copied, option_and_then, option_map};
 ghost use Rattle.uss_event.specs.declared.entries.Entry.{Entry};
 ghost use Rattle.uss_law_book.specs.Legal.{is_new};
@@ -8,8 +8,8 @@ ghost use Rattle.uss_legal.specs.Speaks.{opening_in, trial_in, holding_in, decis
 
 use uss_event::{Entry, Owner};
 
-/// What a book tells, in whatever form it is kept. No answer takes memory. An entry is given where it says what was asked for; an
-/// entry of another kind stands for none.
+/// What a book tells, in whatever form it is kept. No answer takes memory. An entry is given exactly where there is one that says what
+/// was asked for: `says` tells what it says, and `found` that no other entry is given in its place.
 pub trait Tells {
     /// The entries, the oldest first.
     ghost entries: { Self → List Entry };
@@ -28,23 +28,28 @@ pub trait Tells {
 
     /// The opening of a job.
     fn opening(&self, job: u64) -> Option<&Entry>
-        ensures { option_and_then opening_in (option_copied result) ≡ opening_of job (entries self.now) };
+        ensures says { option_and_then opening_in (option_copied result) ≡ opening_of job (entries self.now) }
+        ensures found { is_some result ≡ is_some (opening_of job (entries self.now)) };
 
     /// The attempt with a tag.
     fn attempt(&self, tag: u64) -> Option<&Entry>
-        ensures { option_and_then trial_in (option_copied result) ≡ trial_of tag (entries self.now) };
+        ensures says { option_and_then trial_in (option_copied result) ≡ trial_of tag (entries self.now) }
+        ensures found { is_some result ≡ is_some (trial_of tag (entries self.now)) };
 
     /// What a job recorded.
     fn recorded(&self, job: u64) -> Option<&Entry>
-        ensures { option_and_then holding_in (option_copied result) ≡ holding_of job (entries self.now) };
+        ensures says { option_and_then holding_in (option_copied result) ≡ holding_of job (entries self.now) }
+        ensures found { is_some result ≡ is_some (holding_of job (entries self.now)) };
 
     /// How a job that makes no further attempt is to end.
     fn decision(&self, job: u64) -> Option<&Entry>
-        ensures { option_and_then decision_in (option_copied result) ≡ decision_of job (entries self.now) };
+        ensures says { option_and_then decision_in (option_copied result) ≡ decision_of job (entries self.now) }
+        ensures found { is_some result ≡ is_some (decision_of job (entries self.now)) };
 
     /// How a job ended that recorded nothing.
     fn ending(&self, job: u64) -> Option<&Entry>
-        ensures { option_and_then ending_in (option_copied result) ≡ ending_of job (entries self.now) };
+        ensures says { option_and_then ending_in (option_copied result) ≡ ending_of job (entries self.now) }
+        ensures found { is_some result ≡ is_some (ending_of job (entries self.now)) };
 
     /// Whether a job recorded something.
     fn is_held(&self, job: u64) -> bool
@@ -80,11 +85,13 @@ pub trait Tells {
 
     /// The opening of the flight's open job.
     fn open_job(&self, flight: u64) -> Option<&Entry>
-        ensures { option_and_then opening_in (option_copied result) ≡ open_job_of flight (entries self.now) };
+        ensures says { option_and_then opening_in (option_copied result) ≡ open_job_of flight (entries self.now) }
+        ensures found { is_some result ≡ is_some (open_job_of flight (entries self.now)) };
 
     /// The opening of the flight's request with the greatest number.
     fn last(&self, flight: u64) -> Option<&Entry>
-        ensures { option_and_then opening_in (option_copied result) ≡ last_of flight (entries self.now) };
+        ensures says { option_and_then opening_in (option_copied result) ≡ last_of flight (entries self.now) }
+        ensures found { is_some result ≡ is_some (last_of flight (entries self.now)) };
 
     /// Whether the flight has ended.
     fn has_ended(&self, flight: u64) -> bool
@@ -92,5 +99,6 @@ pub trait Tells {
 
     /// What was recorded last of the flight, whether it has ended or not.
     fn last_recorded(&self, flight: u64) -> Option<&Entry>
-        ensures { option_and_then holding_in (option_copied result) ≡ last_holding flight (entries self.now) };
+        ensures says { option_and_then holding_in (option_copied result) ≡ last_holding flight (entries self.now) }
+        ensures found { is_some result ≡ is_some (last_holding flight (entries self.now)) };
 }

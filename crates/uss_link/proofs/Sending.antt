@@ -1,7 +1,7 @@
 -- What the loop over a dial keeps, and how one call goes on from it.
-use Rattle.std.proofs.Common.{◌≡◌, ℕ, ◌+◌, ◌<◌, ◌≤◌, zero, suc, ◌++◌, List, [], ◌∷◌, length, take, drop, Option, Some, Ok, Err, refl, sym, ◌∙◌, ap, subst, arith, append_assoc, length-drop}
+use Rattle.std.proofs.Common.{◌≡◌, ℕ, ◌+◌, ◌<◌, ◌≤◌, zero, suc, ◌++◌, List, [], ◌∷◌, length, take, drop, Option, Some, Bool, IsTrue, Ok, Err, refl, sym, ◌∙◌, ap, subst, arith, append_assoc, length-drop}
 use Rattle.std.proofs.Math.Seq.{take-add}
-use Rattle.uss_link.specs.Talks.{Talk, with_sent, LastBecomes, Sends, SentFront}
+use Rattle.uss_link.specs.Talks.{Talk, with_sent, LastBecomes, Sends, SentFront, Speaks, Stays}
 
 -- since some moment the first n of these bytes were sent
 pub record SentSince (before now : Option (List Talk)) (bytes : List ℕ) (n : ℕ) : Type 0 where
@@ -87,3 +87,30 @@ pub sent_all : (before now : Option (List Talk)) (bytes : List ℕ) (n : ℕ) �
 sent_all before now bytes n sent low high talks is =
     let e : n ≡ length bytes = omega arith in
     subst (λ (k : ℕ). SentFront talks now bytes k) e (sent.told talks is)
+
+-- since some moment a stream is open where one was, and so many bytes went only over an open one
+pub record OverSince (before now : Option Bool) (n : ℕ) : Type 0 where
+  pub stays : Stays before now
+  pub over : (was : Bool) → before ≡ Some was → 0 < n → IsTrue was
+
+pub stays_on : (before now after : Option Bool) → Stays before now → Stays now after → Stays before after
+stays_on before now after first second = record { told = λ was is. second.told was (first.told was is) }
+
+pub over_none : (now : Option Bool) → OverSince now now 0
+over_none now = record { stays = record { told = λ was is. is }; over = λ was is more. absurd (omega arith) }
+
+-- one more call goes on from there
+pub over_more : {T E : Type 0} (before now after : Option Bool) (n m : ℕ) (value : T) → OverSince before now n → Speaks {T = T} {E = E} now after (Ok value) → OverSince before after m
+over_more before now after n m value since call =
+    record {
+      stays = stays_on before now after since.stays call.stays;
+      over = λ was is _. call.over was (since.stays.told was is);
+    }
+
+-- and stays where a call answers a fault
+pub over_same : {T E : Type 0} (before now after : Option Bool) (n : ℕ) (e : E) → OverSince before now n → Speaks {T = T} {E = E} now after (Err e) → Stays before after
+over_same before now after n e since call = stays_on before now after since.stays call.stays
+
+-- where no more bytes are left, all of them went so
+pub over_all : (before now : Option Bool) (bytes : List ℕ) (n : ℕ) → OverSince before now n → length bytes ≤ n → (was : Bool) → before ≡ Some was → 0 < length bytes → IsTrue was
+over_all before now bytes n since low was is some = since.over was is (omega arith)

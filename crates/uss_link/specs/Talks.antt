@@ -1,5 +1,5 @@
 -- What a dial does to the streams that are opened over it, where it tells of them. This project's own.
-use Rattle.std.specs.Prelude.{◌≡◌, ◌==◌, ℕ, ◌≤◌, ◌<◌, nat_lt, Bool, false, ◌&&◌, ◌||◌, List, [], ◌∷◌, ◌++◌, length, take, Option, Some, None, Result, IfOk, MatchResult, IsTrue}
+use Rattle.std.specs.Prelude.{◌≡◌, ◌==◌, ℕ, ◌≤◌, ◌<◌, nat_lt, Bool, true, false, ◌&&◌, ◌||◌, List, [], ◌∷◌, ◌++◌, length, take, Option, Some, None, IfSome, Result, IfOk, MatchResult, IsTrue}
 
 -- one stream: the host and the port that it was opened to, the bytes sent and received over it, and whether its
 -- end was given
@@ -59,3 +59,23 @@ pub record SentFront (talks : List Talk) (after : Option (List Talk)) (bytes : L
   pub within : n ≤ length bytes
   pub none : n ≡ 0 → after ≡ Some talks
   pub some : 0 < n → LastBecomes (with_sent (take n bytes)) talks after
+
+-- Whether a stream is open over a dial, where the dial tells that too. What is told stays told.
+
+-- after reaching a host a stream is open; after a fault one is where one was
+pub record Opens {E : Type 0} (before after : Option Bool) (answer : Result (Unit {0}) E) : Type 0 where
+  pub told : (was : Bool) → before ≡ Some was → MatchResult answer (λ _. after ≡ Some true) (λ _. after ≡ Some was)
+
+-- a stream is open where one was
+pub record Stays (before after : Option Bool) : Type 0 where
+  pub told : (was : Bool) → before ≡ Some was → after ≡ Some was
+
+-- sending and receiving open and close none, and without an open stream they are faults
+pub record Speaks {T E : Type 0} (before after : Option Bool) (answer : Result T E) : Type 0 where
+  pub stays : Stays before after
+  pub over : (was : Bool) → before ≡ Some was → IfOk answer (λ _. IsTrue was)
+
+-- after closing no stream is open
+pub record Closes (before after : Option Bool) : Type 0 where
+  pub told : (was : Bool) → before ≡ Some was → after ≡ Some false
+  pub closed : IfSome after (λ is. is ≡ false)

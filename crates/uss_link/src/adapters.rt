@@ -78,8 +78,8 @@ impl<W: Write> Sink for WriterSink<W> {
     }
 }
 
-/// A dial over TCP. It tells nothing of the bytes, nor of what was reached: no contract can say what a real
-/// stream holds.
+/// A dial over TCP. It tells nothing of the bytes, nor of what was reached, nor whether a stream is open: no contract can
+/// say what a real stream holds.
 #[derive(Drop)]
 pub struct TcpDial<'a, N: Net> {
     net: &'a N,
@@ -153,6 +153,8 @@ impl<'a, N: Net> Dial for TcpDial<'a, N> {
     ghost faults = { λ s. s.faults };
 
     ghost talks = { λ _. None };
+
+    ghost is_open = { λ _. None };
 
     fn reach(&mut self, host: &str, port: u16) -> Result<(), DialFault> {
         self.stream = None;

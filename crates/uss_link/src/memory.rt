@@ -1,6 +1,7 @@
-ghost use Rattle.std.specs.Prelude.{◌≡◌, ℕ, ◌+◌, ◌<◌, ◌≤◌, ◌↔◌, ◌++◌, [], take, length, Contains, IsErr, IfOk, OnErr, min};
+ghost use Rattle.std.specs.Prelude.{◌≡◌, [], Some, is_err};
 ghost use Rattle.uss_cause.specs.Cause.{Counts};
 ghost use Rattle.uss_link.specs.Bytes.{Reads, Writes};
+ghost use Rattle.uss_link.specs.Stores.{IsCall, is_listed};
 
 use crate::sink::{Sink, WriteFault};
 use crate::source::{ReadFault, Source};
@@ -86,7 +87,13 @@ impl Source for MemorySource {
 
     ghost left = { λ s. Some s.left };
 
-    fn read(&mut self, buffer: &mut [u8]) -> Result<usize, ReadFault> {
+    /// A call fails exactly where its number is listed.
+    fn read(&mut self, buffer: &mut [u8]) -> Result<usize, ReadFault>
+        ensures counts { Counts self.old.faults self.new.faults result }
+        ensures bytes { Reads (Some self.old.left) (Some self.new.left) buffer.old buffer.new result }
+        ensures call { IsCall self.old.failing self.old.calls self.old.faults self.new.failing self.new.calls self.new.faults result }
+        ensures only { is_err result ≡ is_listed self.new.calls self.old.failing }
+    {
         self.calls = self.calls.saturating_add(1);
         if self.failing.contains(&self.calls) {
             self.faults = raised(self.faults);
@@ -184,7 +191,12 @@ impl Sink for MemorySink {
 
     ghost taken = { λ s. Some s.taken };
 
-    fn write(&mut self, bytes: &[u8]) -> Result<usize, WriteFault> {
+    /// A call fails where its number is listed, and for want of memory.
+    fn write(&mut self, bytes: &[u8]) -> Result<usize, WriteFault>
+        ensures counts { Counts self.old.faults self.new.faults result }
+        ensures bytes { Writes (Some self.old.taken) (Some self.new.taken) bytes.now result }
+        ensures call { IsCall self.old.failing self.old.calls self.old.faults self.new.failing self.new.calls self.new.faults result }
+    {
         self.calls = self.calls.saturating_add(1);
         if self.failing.contains(&self.calls) {
             self.faults = raised(self.faults);

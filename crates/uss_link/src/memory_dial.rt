@@ -1,8 +1,9 @@
-ghost use Rattle.std.specs.Prelude.{◌≡◌, ℕ, ◌≤◌, ◌++◌, [], ◌∷◌, List, Some, None, drop, length, true, false, IfOk, OnOk, OnErr};
+ghost use Rattle.std.specs.Prelude.{◌≡◌, ℕ, ◌≤◌, ◌-◌, ◌++◌, [], ◌∷◌, List, Some, None, drop, length, true, false, IfOk, IfNone, OnOk, OnErr};
 ghost use Rattle.std.specs.Option.{option_to_list, option_copied};
 ghost use Rattle.uss_cause.specs.Cause.{Counts, Rose};
-ghost use Rattle.uss_link.specs.Stores.{first_or};
-ghost use Rattle.uss_link.specs.Talks.{Talk, Reaches, Sends, Receives, fresh_talk, with_sent, with_received};
+ghost use Rattle.uss_link.specs.Bytes.{Takes};
+ghost use Rattle.uss_link.specs.Stores.{IsCall, first_or, is_listed, one_more};
+ghost use Rattle.uss_link.specs.Talks.{Talk, Reaches, Sends, Receives, Opens, Speaks, Closes, fresh_talk, with_sent, with_received};
 
 use crate::dial::{Dial, DialFault};
 use std::alloc::{AllocError, Global};
@@ -139,7 +140,7 @@ pub struct MemoryDial {
 }
 
 impl Model for MemoryDial {
-    ghost use Rattle.std.specs.Prelude.{◌≡◌, ◌≤◌, ◌<◌, ◌++◌, IsTrue, IfSome, length, drop};
+    ghost use Rattle.std.specs.Prelude.{◌≡◌, ◌≤◌, ◌<◌, ◌++◌, [], IsTrue, IfSome, IfNone, length, drop};
     ghost use Rattle.std.specs.Option.{option_to_list};
     ghost use Rattle.uss_link.specs.Stores.{Exchanges};
 
@@ -147,7 +148,7 @@ impl Model for MemoryDial {
 
     ghost view = { λ s. record { talks = s.past.items ++ option_to_list s.last; is_open = s.is_open; left = drop s.place s.reply; replies = s.replies.items; failing = s.failing.items; calls = s.calls; faults = s.faults } };
 
-    ghost invariant = { λ s. (s.place ≤ length s.reply) × (0 < s.piece) × IfSome s.last (λ t. IsTrue t.ended → s.place ≡ length s.reply) };
+    ghost invariant = { λ s. (s.place ≤ length s.reply) × (0 < s.piece) × IfSome s.last (λ t. IsTrue t.ended → s.place ≡ length s.reply) × IfNone s.last (s.past.items ≡ []) };
 }
 
 impl MemoryDial {
@@ -190,14 +191,16 @@ impl MemoryDial {
 
     /// The streams that were opened before the last one, oldest first.
     pub fn past(&self) -> &[Conversation]
-        ensures { (last : List Talk) × (self.now.talks ≡ result.now ++ last) × (length last ≤ 1) }
+        ensures before { (last : List Talk) × (self.now.talks ≡ result.now ++ last) }
+        ensures but_one { length result.now ≡ length self.now.talks - 1 }
     {
         self.past.as_slice()
     }
 
     /// The stream that was opened last, if any was.
     pub fn last(&self) -> Option<&Conversation>
-        ensures { (past : List Talk) × (self.now.talks ≡ past ++ option_to_list (option_copied result)) }
+        ensures behind { (past : List Talk) × (self.now.talks ≡ past ++ option_to_list (option_copied result)) }
+        ensures none { IfNone result (self.now.talks ≡ []) }
     {
         self.last.as_ref()
     }
@@ -218,7 +221,8 @@ impl MemoryDial {
 
     /// Counts a call, and says whether it is to fail.
     fn next_call_fails(&mut self) -> bool
-        ensures { (calls : ℕ) × (self.new ≡ record self.old { calls = calls }) }
+        ensures counted { self.new ≡ record self.old { calls = one_more self.old.calls } }
+        ensures listed { result ≡ is_listed self.new.calls self.old.failing }
     {
         self.calls = self.calls.saturating_add(1);
         self.failing.contains(&self.calls)
@@ -228,7 +232,7 @@ impl MemoryDial {
     fn refuse(&mut self) -> DialFault
         ensures count { Rose self.old.faults self.new.faults }
         ensures kept { self.old.faults ≤ self.new.faults }
-        ensures same { self.new ≡ record self.old { faults = self.new.faults } }
+        ensures same { self.new ≡ record self.old { faults = one_more self.old.faults } }
     {
         self.faults = raised(self.faults);
         DialFault
@@ -286,10 +290,15 @@ impl Dial for MemoryDial {
 
     ghost talks = { λ s. Some s.talks };
 
+    ghost is_open = { λ s. Some s.is_open };
+
     fn reach(&mut self, host: &str, port: u16) -> Result<(), DialFault>
         ensures counts { Counts self.old.faults self.new.faults result }
         ensures opened { Reaches (Some self.old.talks) (Some self.new.talks) host.now port result }
+        ensures stream { Opens (Some self.old.is_open) (Some self.new.is_open) result }
         ensures reply { OnOk result ((self.new.left ≡ first_or [] self.old.replies) × (self.new.replies ≡ drop 1 self.old.replies)) }
+        ensures same { OnErr result ((self.new.left ≡ self.old.left) × (self.new.replies ≡ self.old.replies)) }
+        ensures call { IsCall self.old.failing self.old.calls self.old.faults self.new.failing self.new.calls self.new.faults result }
     {
         if self.next_call_fails() {
             return Err(self.refuse());
@@ -300,7 +309,13 @@ impl Dial for MemoryDial {
         }
     }
 
-    fn send(&mut self, bytes: &[u8]) -> Result<usize, DialFault> {
+    fn send(&mut self, bytes: &[u8]) -> Result<usize, DialFault>
+        ensures counts { Counts self.old.faults self.new.faults result }
+        ensures bytes { Sends (Some self.old.talks) (Some self.new.talks) bytes.now result }
+        ensures stream { Speaks (Some self.old.is_open) (Some self.new.is_open) result }
+        ensures same { (self.new.left ≡ self.old.left) × (self.new.replies ≡ self.old.replies) }
+        ensures call { IsCall self.old.failing self.old.calls self.old.faults self.new.failing self.new.calls self.new.faults result }
+    {
         if self.next_call_fails() {
             return Err(self.refuse());
         }
@@ -314,7 +329,15 @@ impl Dial for MemoryDial {
         }
     }
 
-    fn receive(&mut self, buffer: &mut [u8]) -> Result<usize, DialFault> {
+    fn receive(&mut self, buffer: &mut [u8]) -> Result<usize, DialFault>
+        ensures counts { Counts self.old.faults self.new.faults result }
+        ensures bytes { Receives (Some self.old.talks) (Some self.new.talks) buffer.old buffer.new result }
+        ensures stream { Speaks (Some self.old.is_open) (Some self.new.is_open) result }
+        ensures given { IfOk result (Takes self.old.left (Some self.new.left) buffer.old buffer.new) }
+        ensures same { OnErr result (self.new.left ≡ self.old.left) }
+        ensures replies { self.new.replies ≡ self.old.replies }
+        ensures call { IsCall self.old.failing self.old.calls self.old.faults self.new.failing self.new.calls self.new.faults result }
+    {
         if self.next_call_fails() {
             return Err(self.refuse());
         }
@@ -336,7 +359,12 @@ impl Dial for MemoryDial {
         }
     }
 
-    fn close(&mut self) {
+    fn close(&mut self)
+        ensures counts { self.new.faults ≡ self.old.faults }
+        ensures told { Some self.new.talks ≡ Some self.old.talks }
+        ensures stream { Closes (Some self.old.is_open) (Some self.new.is_open) }
+        ensures same { self.new ≡ record self.old { is_open = false } }
+    {
         self.is_open = false;
     }
 }

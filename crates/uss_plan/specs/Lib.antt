@@ -1,2 +1,3 @@
 pub mod Firsts
 pub mod Choice
+pub mod Times

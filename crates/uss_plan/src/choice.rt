@@ -1,8 +1,10 @@
-ghost use Rattle.std.specs.Prelude.{◌≡◌, ◌<◌, ◌≤◌, length, option_copied, is_none, IfSome, false};
+ghost use Rattle.std.specs.Prelude.{◌≡◌, ◌<◌, ◌≤◌, ◌++◌, length, option_copied, is_none, IfSome, true, false};
 ghost use Rattle.std.specs.Option.{option_map};
 ghost use Rattle.uss_plan.specs.Firsts.{first_passing};
+ghost use Rattle.uss_plan.specs.Times.{are_within};
 ghost use Rattle.uss_plan.specs.Choice.{wanted, is_clear, verdict_on, stands, is_free, choice, IsOf};
 
+use crate::times::{Times, is_apart, times_of};
 use uss_event::{Pair, Proposal, Proposals, RuleTable, Verdict};
 use uss_intent::{FlightId, State};
 use uss_rule::verdict_of;
@@ -26,8 +28,11 @@ fn is_clear(rule: Verdict) -> bool
     }
 }
 
+/// What comes of holding the proposal, whose extents are within these times, against the pair: nothing where the pair's times are apart
+/// from them, and only else are its volumes looked at.
 #[tactic(auto, unfolding(crate::specs::Choice::verdict_on))]
 fn verdict_on(
+    times: Times,
     table: &RuleTable,
     flight: FlightId,
     to: State,
@@ -36,8 +41,12 @@ fn verdict_on(
     pair: &Pair,
     previous: Option<&Pair>,
 ) -> Verdict
+    requires { are_within times (proposal.now.volumes ++ proposal.now.off_nominal) ≡ true }
     ensures { result ≡ verdict_on (wanted table.now flight to priority (option_copied previous.entry)) proposal.now pair.now }
 {
+    if is_apart(times, pair) {
+        return Verdict::Clear;
+    }
     verdict_of(
         table,
         flight,
@@ -65,8 +74,9 @@ fn first_standing(
     ensures free { is_none result ≡ is_free (wanted table.now flight to priority (option_copied previous.entry)) pairs.now proposal.now }
     ensures some { IfSome result (λ r. (r.0 < length pairs.now) × (is_clear r.1 ≡ false)) }
 {
+    let times = times_of(proposal);
     for (place, pair) in pairs.iter().enumerate() {
-        let rule = verdict_on(table, flight, to, priority, proposal, pair, previous);
+        let rule = verdict_on(times, table, flight, to, priority, proposal, pair, previous);
         if !is_clear(rule) {
             return Some((place, rule));
         }

@@ -1,11 +1,13 @@
-//! Details, tables of rules, transitions and choices with known answers.
+//! Details, tables of rules, transitions, verdicts, choices and copies with known answers.
 
 use crate::{Choice, PlanRefusal, choose, crowd};
 use std::alloc::Global;
 use std::test::Fail;
-use uss_event::{Details, DetailsRefusal, Pair, Proposal, Proposals, RuleTable, Verdict};
+use uss_event::{
+    Candidate, Details, DetailsRefusal, Pair, Proposal, Proposals, RuleTable, Verdict,
+};
 use uss_intent::{Base, FlightId, Name, Ovn, Reference, State, Volumes, flight_id, ticket_id};
-use uss_rule::may_go;
+use uss_rule::{may_go, verdict};
 use uss_shape::{Outline, Place, Rect};
 use uss_vol4::Volume4;
 
@@ -113,6 +115,75 @@ fn winding(alloc: Global, count: usize) -> Result<Volumes, Fail> {
         volumes.push(Volume4::of(Outline::of(vertices)?, 0, 100, EARLY, LATE)?)?;
     }
     Ok(volumes)
+}
+
+fn candidate(alloc: Global, x: i8) -> Result<Candidate, Fail> {
+    Ok(Candidate {
+        flight: flight_id(1, 1),
+        state: State::Accepted,
+        priority: 0,
+        volumes: squares(alloc, &[x])?,
+    })
+}
+
+fn same_details(a: &Details, b: &Details) -> bool {
+    a.volumes == b.volumes && a.off_nominal == b.off_nominal && a.priority == b.priority
+}
+
+fn is_copied(pair: &Pair) -> Result<bool, Fail> {
+    let copy = pair.clone()?;
+    Ok(copy.reference() == pair.reference() && same_details(copy.details(), pair.details()))
+}
+
+fn are_details_copied(details: &Details) -> Result<bool, Fail> {
+    let copy = details.clone()?;
+    Ok(same_details(&copy, details))
+}
+
+fn is_proposal_copied(proposal: &Proposal) -> Result<bool, Fail> {
+    let copy = proposal.clone()?;
+    Ok(copy.volumes == proposal.volumes && copy.off_nominal == proposal.off_nominal)
+}
+
+fn is_table_copied(table: &RuleTable) -> Result<bool, Fail> {
+    let copy = table.clone()?;
+    Ok(copy.priorities() == table.priorities())
+}
+
+#[test]
+fn copies_are_the_same(rt: HostRuntime) -> Result<(), Fail> {
+    let alloc = rt.alloc();
+    assert!(rt; is_copied(&intent(alloc, 1, State::Activated, 7, 20)?)?);
+    let apart = State::Contingent;
+    let details = Details::of(apart, squares(alloc, &[1, 2])?, squares(alloc, &[3])?, 7)?;
+    assert!(rt; are_details_copied(&details)?);
+    let proposal = Proposal {
+        volumes: squares(alloc, &[1, 2])?,
+        off_nominal: squares(alloc, &[3])?,
+    };
+    assert!(rt; is_proposal_copied(&proposal)?);
+    assert!(rt; is_table_copied(&RuleTable::of(alloc, &[5, 0, 1000])?)?);
+    Ok(())
+}
+
+#[test]
+fn a_candidate_is_judged_by_its_own_extents(rt: HostRuntime) -> Result<(), Fail> {
+    let alloc = rt.alloc();
+    let table = RuleTable::of(alloc, &[0])?;
+    let equal = intent(alloc, 1, State::Activated, 0, 20)?;
+    let higher = intent(alloc, 2, State::Activated, 500, 20)?;
+    let near = candidate(alloc, 25)?;
+    let far = candidate(alloc, 50)?;
+    assert_eq!(rt; verdict(&table, &far, &higher, None), Verdict::Clear);
+    assert_eq!(rt;
+        verdict(&table, &near, &equal, None),
+        Verdict::EqualForbidden
+    );
+    assert_eq!(rt;
+        verdict(&table, &near, &higher, None),
+        Verdict::HigherStands
+    );
+    Ok(())
 }
 
 #[test]

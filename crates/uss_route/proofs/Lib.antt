@@ -1,3 +1,4 @@
 pub mod Cutting
 pub mod Looking
 pub mod Spelled
+pub mod OvnSteps

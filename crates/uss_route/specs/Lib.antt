@@ -1,3 +1,4 @@
 pub mod Rows
 pub mod Routes
 pub mod Spelling
+pub mod Ovns

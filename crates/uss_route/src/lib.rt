@@ -1,10 +1,12 @@
 //! The routes of requests: which call or event the method and the path of a request name.
 //!
-//! `specs/Rows.antt` has the table, `specs/Routes.antt` how a path is looked up in it.
+//! `specs/Rows.antt` has the table, `specs/Routes.antt` how a path is looked up in it, `specs/Ovns.antt` how an OVN stands in
+//! one.
 #![tactic(auto)]
 
 mod found;
 mod laws;
+mod ovns;
 mod paths;
 mod routes;
 mod rows;
@@ -12,6 +14,7 @@ mod rows;
 mod tests;
 
 pub use found::Route;
-pub use laws::paths_are_texts_and_parameters;
+pub use laws::{ovns_are_read_again, paths_are_texts_and_parameters};
+pub use ovns::{ovn_of_segment, segment_of_ovn};
 pub use routes::route;
 pub use rows::RouteRow;

@@ -3,6 +3,7 @@ use std::alloc::Global;
 use std::process::Abort;
 use std::test::Fail;
 use uss_http::HttpRefusal;
+use uss_intent::{IntentRefusal, Ovn};
 
 /// Methods, targets, and the row and the parameters that each is routed to.
 const ROUTED: [(&str, &str, RouteRow, &str, &str); 24] = [
@@ -245,5 +246,74 @@ fn other_targets_are_refused(rt: HostRuntime) -> Result<(), Fail> {
         );
     }
     assert!(rt; is_refused(alloc, "GET", b"/dss/v1/subscriptions/\xff", 436, ""));
+    Ok(())
+}
+
+/// OVNs, and each as it is written in a path.
+const WRITTEN: [(&str, &str); 4] = [
+    ("AZaz09-._~AZaz09", "AZaz09-._~AZaz09"),
+    ("2024-05/ovn?100%", "2024-05%2Fovn%3F100%25"),
+    (
+        "!\"#$&'()*+,:;<=>",
+        "%21%22%23%24%26%27%28%29%2A%2B%2C%3A%3B%3C%3D%3E",
+    ),
+    ("0123456789@[]^`{|}", "0123456789%40%5B%5D%5E%60%7B%7C%7D"),
+];
+
+/// Whether the OVN is written so, and read again.
+fn is_written(alloc: Global, text: &str, segment: &str) -> bool {
+    let Ok(ovn) = Ovn::of(alloc, text.as_bytes()) else {
+        return false;
+    };
+    let Ok(written) = segment_of_ovn(alloc, &ovn) else {
+        return false;
+    };
+    written.as_str() == segment && is_read(alloc, segment.as_bytes(), text)
+}
+
+/// Whether the parameter is read as this OVN.
+fn is_read(alloc: Global, segment: &[u8], text: &str) -> bool {
+    match ovn_of_segment(alloc, segment) {
+        Ok(ovn) => ovn.as_str() == text,
+        Err(_) => false,
+    }
+}
+
+/// Whether the parameter is no OVN.
+fn is_no_ovn(alloc: Global, segment: &[u8]) -> bool {
+    matches!(ovn_of_segment(alloc, segment), Err(IntentRefusal::BadOvn))
+}
+
+/// Parameters that aren't an OVN: for a `%`, a byte, or how many there are.
+const NO_OVNS: [&str; 10] = [
+    "",
+    "0123456789abcde",
+    "0123456789abcdef%",
+    "0123456789abcdef%4",
+    "0123456789abcdef%4G",
+    "0123456789abcdef%%41",
+    "0123456789abcdef%+1",
+    "0123456789abcdef%20",
+    "0123456789abcdef%C3%A9",
+    "0123456789abcd%41",
+];
+
+#[test]
+fn ovns_stand_in_paths(rt: HostRuntime) -> Result<(), Fail> {
+    let alloc = rt.alloc();
+    for (text, segment) in WRITTEN {
+        assert!(rt; is_written(alloc, text, segment), "{text}");
+    }
+    // digits of either case, and bytes that could stand as they are
+    assert!(rt; is_read(alloc, b"0123456789%2f%2F%41+/a", "0123456789//A+/a"));
+    Ok(())
+}
+
+#[test]
+fn other_parameters_are_no_ovns(rt: HostRuntime) -> Result<(), Fail> {
+    let alloc = rt.alloc();
+    for segment in NO_OVNS {
+        assert!(rt; is_no_ovn(alloc, segment.as_bytes()), "{segment}");
+    }
     Ok(())
 }

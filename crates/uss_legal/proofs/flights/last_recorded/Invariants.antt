@@ -1,4 +1,4 @@
-use Rattle.std.proofs.Common.{◌≡◌, drop}
+use Rattle.std.proofs.Common.{◌≡◌, drop, is_some}
 use Rattle.std.specs.List.{last_or}
 use Rattle.std.specs.Option.{option_copied}
 use Rattle.uss_law_book.specs.Readings.{last_holding}
@@ -7,4 +7,6 @@ use Rattle.uss_legal.proofs.Last.{view}
 use Rattle.uss_legal.proofs.flights.last_recorded.Given as goal
 
 abbrev pub invariant-loop-entry : goal.invariant-loop-entry
-invariant-loop-entry l = last_or (view (option_copied l.best)) (recorded_in l.entries l.flight (drop l.entry-index l.entries)) ≡ last_holding l.flight l.entries
+invariant-loop-entry l =
+    (last_or (view (option_copied l.best)) (recorded_in l.entries l.flight (drop l.entry-index l.entries)) ≡ last_holding l.flight l.entries)
+    × (is_some (option_copied l.best) ≡ is_some (view (option_copied l.best)))

@@ -25,7 +25,7 @@ invariant_of-self-2 c =
     rw (c.put.ensures, c.take.ensures.after)
     (record {
       legal = legal_longer [] es c.args.e c.self.invariant.legal m;
-      index = c.enter.ensures es c.self.invariant.index (legal_is_orderly es c.self.invariant.legal) m (ap (λ (r : Room). r.flight) same) (ap (λ (r : Room). r.pair) same) (sym (c.count-place.ensures ∙ ap length c.deref.ensures.value));
+      index = c.enter.ensures es c.self.invariant.index (legal_is_orderly es c.self.invariant.legal) m (ap (λ (r : Room). r.flight) same) (ap (λ (r : Room). r.ordinal) same) (ap (λ (r : Room). r.pair) same) (sym (c.count-place.ensures ∙ ap length c.deref.ensures.value));
       room = tt;
       needed_is = c.need_after-self-inside.ensures ∙ ap (λ l. need (l ++ c.args.e ∷ [])) c.deref-2.ensures.value;
       settled_is = c.settled_after-self-inside.ensures ∙ ap (λ l. journal_length (settled (l ++ c.args.e ∷ []))) c.deref-3.ensures.value;

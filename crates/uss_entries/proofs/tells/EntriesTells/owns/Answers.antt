@@ -9,4 +9,4 @@ pub returns : goal.returns
 returns c =
     let es = c.args.self.now.entries in
     let s : IsOrderly es = rw (← c.self.view_is) (legal_is_orderly _ c.self.invariant.legal) in
-    c.is_by_job.ensures ∙ ap (λ t. is_by_job c.args.job t) c.attempt.ensures ∙ owns_is c.args.job c.args.tag es s
+    c.is_by_job.ensures ∙ ap (λ t. is_by_job c.args.job t) c.attempt.ensures.says ∙ owns_is c.args.job c.args.tag es s

@@ -1,8 +1,11 @@
-use Rattle.std.proofs.Common.{◌∙◌, ap, sym}
+use Rattle.std.proofs.Common.{◌∙◌, ap, sym, is_some}
 use Rattle.std.specs.Option.{option_and_then}
 use Rattle.uss_legal.specs.Speaks.{decision_in}
-use Rattle.uss_legal.proofs.Direct.{decision_by_find}
+use Rattle.uss_legal.proofs.Direct.{copied_some, decision_by_find, decision_found}
 use Rattle.uss_legal.proofs.plain.PlainTells.decision.Goals as goal
 
-pub returns : goal.returns
-returns c = ap (option_and_then decision_in) c.first_of.ensures ∙ sym (decision_by_find c.args.job c.args.self.now.entries.now)
+pub returns-clause-says : goal.returns-clause-says
+returns-clause-says c = ap (option_and_then decision_in) c.first_of.ensures ∙ sym (decision_by_find c.args.job c.args.self.now.entries.now)
+
+pub returns-clause-found : goal.returns-clause-found
+returns-clause-found c = copied_some c.first_of.result ∙ ap is_some c.first_of.ensures ∙ decision_found c.args.job c.args.self.now.entries.now

@@ -1,0 +1,4 @@
+pub mod Texts
+pub mod Decided
+pub mod Requests
+pub mod Responses
