@@ -2,3 +2,4 @@ pub mod Extents
 pub mod Tables
 pub mod Accepted
 mod Ascending
+mod Searched

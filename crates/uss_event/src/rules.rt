@@ -136,7 +136,7 @@ impl RuleTable {
     pub fn forbids(&self, priority: u16) -> bool
         ensures { result ≡ is_listed priority self.now }
     {
-        self.priorities.iter().any(|p| *p == priority)
+        self.priorities.binary_search(&priority).is_ok()
     }
 
     /// The priorities, ascending. Takes no memory.
