@@ -1,6 +1,7 @@
 -- The numbers under which refusals are printed, and their members. This project's own.
 use Rattle.std.specs.Prelude.{ℕ, Option, Some, None}
 use Rattle.uss_wire_base.specs.declared.refusal.Member.{Member}
+use Rattle.uss_wire_base.specs.declared.refusal.Member.TheVariants.{Whole}
 use Rattle.uss_wire_base.specs.declared.refusal.WireRefusal.{WireRefusal}
 use Rattle.uss_wire_base.specs.declared.refusal.WireRefusal.TheVariants.{BadJson, Missing, WrongKind, NotThisProfile, BadTime, TooMany, TooFewVertices, TooManyVertices, OutOfRange, LowAboveHigh, StartAfterEnd, AltitudeRange, TimeRange, TooManyVolumes, TooManyVerticesTogether, OffNominalNotAllowed, NoVolume, PriorityRange, BadName, BadBase, BadOvn, Memory}
 
@@ -28,13 +29,18 @@ number_of BadBase = Some 129
 number_of BadOvn = Some 130
 number_of Memory = None
 
+-- the member, and none where it is the whole message, which has no name
+abbrev pub named : Member → Option Member
+named Whole = None
+named member = Some member
+
 abbrev pub member_of : WireRefusal → Option Member
 member_of BadJson = None
-member_of (Missing x) = Some x
-member_of (WrongKind x) = Some x
-member_of (NotThisProfile x) = Some x
-member_of (BadTime x) = Some x
-member_of (TooMany x) = Some x
+member_of (Missing x) = named x
+member_of (WrongKind x) = named x
+member_of (NotThisProfile x) = named x
+member_of (BadTime x) = named x
+member_of (TooMany x) = named x
 member_of TooFewVertices = None
 member_of TooManyVertices = None
 member_of (OutOfRange x) = None

@@ -229,6 +229,16 @@ pub enum WireRefusal {
     Memory,
 }
 
+/// The member, and none where it is the whole message.
+fn named(member: Member) -> Option<Member>
+    ensures { result ≡ spec.named member }
+{
+    match member {
+        Member::Whole => None,
+        _ => Some(member),
+    }
+}
+
 impl WireRefusal {
     /// The number under which the refusal is printed: 101 to 130 and 401 to 406, none for want of memory.
     pub fn number(&self) -> Option<u16>
@@ -260,7 +270,7 @@ impl WireRefusal {
         }
     }
 
-    /// The member at which the message is refused, where the refusal is one of a member.
+    /// The member at which the message is refused, where the refusal is one of a member; none where the message is refused as a whole.
     pub fn member(&self) -> Option<Member>
         ensures { result ≡ spec.member_of self.now }
     {
@@ -269,7 +279,7 @@ impl WireRefusal {
             | WireRefusal::WrongKind(member)
             | WireRefusal::NotThisProfile(member)
             | WireRefusal::BadTime(member)
-            | WireRefusal::TooMany(member) => Some(*member),
+            | WireRefusal::TooMany(member) => named(*member),
             _ => None,
         }
     }
