@@ -1,6 +1,6 @@
-ghost use Rattle.std.specs.Prelude.{◌≡◌, ◌<◌, ◌≤◌, ◌++◌, length, option_copied, is_none, IfSome, true, false};
+ghost use Rattle.std.specs.Prelude.{◌≡◌, ◌<◌, ◌≤◌, ◌++◌, length, drop, option_copied, is_none, IfSome, true, false};
 ghost use Rattle.std.specs.Option.{option_map};
-ghost use Rattle.uss_plan.specs.Firsts.{first_passing};
+ghost use Rattle.uss_plan.specs.Firsts.{first_from, first_passing};
 ghost use Rattle.uss_plan.specs.Times.{are_within};
 ghost use Rattle.uss_plan.specs.Choice.{wanted, is_clear, verdict_on, stands, is_free, choice, IsOf};
 
@@ -84,21 +84,24 @@ fn first_standing(
     None
 }
 
-/// The first proposal against which no pair stands.
+/// The first proposal from this place on against which no pair stands.
 fn first_free(
     table: &RuleTable,
     flight: FlightId,
     to: State,
     priority: u16,
     proposals: &[Proposal],
+    from: usize,
     pairs: &[Pair],
     previous: Option<&Pair>,
 ) -> Option<usize>
+    requires { from ≤ length proposals.now }
     ensures first { let w = wanted table.now flight to priority (option_copied previous.entry) in
-        result ≡ option_map (λ found. found.0) (first_passing (is_free w pairs.now) proposals.now) }
+        result ≡ option_map (λ found. found.0) (first_from from (is_free w pairs.now) (drop from proposals.now)) }
     ensures some { IfSome result (λ k. k < length proposals.now) }
 {
-    for (alternative, proposal) in proposals.iter().enumerate() {
+    for alternative in from..proposals.len() {
+        let proposal = &proposals[alternative];
         if first_standing(table, flight, to, priority, proposal, pairs, previous).is_none() {
             return Some(alternative);
         }
@@ -124,13 +127,14 @@ pub fn choose(
     ensures of { IsOf proposals.now pairs.now result }
 {
     let proposals = proposals.as_slice();
-    if let Some(alternative) = first_free(table, flight, to, priority, proposals, pairs, previous) {
-        return Choice::Chosen {
+    let first = first_standing(table, flight, to, priority, &proposals[0], pairs, previous);
+    let Some((place, rule)) = first else {
+        return Choice::Chosen { alternative: 0 };
+    };
+    match first_free(table, flight, to, priority, proposals, 1, pairs, previous) {
+        Some(alternative) => Choice::Chosen {
             alternative: alternative as u8,
-        };
-    }
-    match first_standing(table, flight, to, priority, &proposals[0], pairs, previous) {
-        Some((place, rule)) => Choice::Blocked { place, rule },
-        None => unreachable!(),
+        },
+        None => Choice::Blocked { place, rule },
     }
 }
