@@ -1,2 +1,4 @@
 pub mod Walks
 pub mod Apart
+mod FoundFirst
+mod Best

@@ -1,3 +1,4 @@
 pub mod Firsts
 pub mod Choice
 pub mod Times
+pub mod Best

@@ -8,9 +8,11 @@
 
 mod choice;
 mod crowds;
+mod laws;
 #[cfg(test)]
 mod tests;
 mod times;
 
 pub use choice::{Choice, choose};
 pub use crowds::{PlanRefusal, crowd};
+pub use laws::best_is_chosen;
