@@ -1,5 +1,5 @@
 -- How soon reading stops, from one stage to the next.
-use Rattle.std.proofs.Common.{◌≡◌, ℕ, ◌+◌, ◌-◌, ◌<◌, ◌≤◌, List, [], ◌++◌, length, take, drop, refl, sym, ap, ◌∙◌, subst, arith, Err, append_assoc, append-nil, length-append, take_all}
+use Rattle.std.proofs.Common.{◌≡◌, ℕ, ◌+◌, ◌-◌, ◌<◌, ◌≤◌, List, [], ◌++◌, length, take, drop, sym, ap, ◌∙◌, subst, arith, Err, append_assoc, append-nil, length-append, take_all}
 use Rattle.std.specs.Prelude.{Result}
 use Rattle.std.proofs.lemmas.List.{drop-append-le}
 use Rattle.uss_http_base.specs.declared.halt.Halt.{Halt}
@@ -8,7 +8,7 @@ use Rattle.uss_http_base.specs.declared.refusal.ReadRefusal.{ReadRefusal}
 use Rattle.uss_http_base.specs.declared.refusal.ReadRefusal.TheVariants as refusal
 use Rattle.uss_http_base.specs.Pieces.{piece_limit}
 use Rattle.uss_http_base.specs.Streams.{Passes, Adds, Moves, Lacks, UnlessOutside}
-use Rattle.uss_http_base.specs.Prompt.{AreFew, call_limit, GrowsBy, Stays, StopsSoon, IsPrompt, stays, soon, UnlessFault}
+use Rattle.uss_http_base.specs.Prompt.{AreFew, call_limit, GrowsBy, IsPrompt, stays, soon, UnlessFault}
 use Rattle.uss_http_base.specs.ChunkAnswers.{refusal_of_piece}
 use Rattle.uss_http_base.specs.HeadAnswers.{refusal_of_head}
 use Rattle.uss_http_base.proofs.Passing.{passes_then, passes_behind}
