@@ -1,34 +1,27 @@
 -- How soon reading a response stops.
-use Rattle.std.proofs.Common.{◌≡◌, ℕ, ◌<◌, ◌≤◌, List, [], ◌++◌, length, refl, sym, subst, arith, Option, Some, Ok, Err, inl, inr, append-nil}
+use Rattle.std.proofs.Common.{◌≡◌, ℕ, ◌≤◌, List, [], ◌++◌, length, refl, sym, subst, arith, Option, Some, Ok, Err, inl, inr}
 use Rattle.std.specs.Prelude.{Result}
 use Rattle.httparse.specs.Grammar.{print_response}
 use Rattle.uss_link.specs.Talks.{Talk}
-use Rattle.uss_http_base.specs.declared.halt.Halt.{Halt}
-use Rattle.uss_http_base.specs.declared.halt.Halt.TheVariants as halt
 use Rattle.uss_http_base.specs.declared.refusal.ReadRefusal.{ReadRefusal}
 use Rattle.uss_http_base.specs.declared.refusal.ReadRefusal.TheVariants as refusal
 use Rattle.uss_http_base.specs.Fields.{body_limit}
-use Rattle.uss_http_base.specs.Streams.{Passes, Adds, IsOutside}
-use Rattle.uss_http_base.specs.ChunkAnswers.{refusal_of_piece}
+use Rattle.uss_http_base.specs.Streams.{Passes, Adds}
 use Rattle.uss_http_base.specs.Dials.{HeardFrom}
 use Rattle.uss_http_base.specs.NothingHeard.{heard_nothing}
-use Rattle.uss_http_base.specs.Prompt.{call_limit, IsPrompt, stays, soon, UnlessFault, ButForFaults}
-use Rattle.uss_http_base.proofs.Passing.{passes_then, adds_none}
-use Rattle.uss_http_base.proofs.Prompting.{all_open, prompt_map, prompt_then, refused_map}
+use Rattle.uss_http_base.specs.Prompt.{call_limit, IsPrompt, stays, soon, ButForFaults}
+use Rattle.uss_http_base.proofs.Passing.{passes_then}
+use Rattle.uss_http_base.proofs.Prompting.{prompt_map, prompt_then, refused_map}
+use Rattle.uss_http_base.specs.declared.fields.Framing.{Framing}
+use Rattle.uss_http_base.specs.Bodies.{IsRefusedBody}
+use Rattle.uss_http_response.specs.declared.heads.BodyEnd.{BodyEnd}
+use Rattle.uss_http_response.specs.declared.heads.BodyEnd.TheVariants.{Framed}
 use Rattle.uss_http_response.specs.declared.heads.StatusHead.{StatusHead}
 use Rattle.uss_http_response.specs.Heads.{IsRefusedHead}
 use Rattle.uss_http_response.specs.Responses.{IsOpenBodyAt, IsOpen}
 use Rattle.uss_http_response.specs.Answers.{TakesHead}
 use Rattle.uss_http_response.specs.Dials.{ReceivesPromptly}
 use Rattle.uss_http_response.proofs.ResponseSteps.{with_rest}
-
--- a halt that no bytes cause
-pub outside : (h : Halt) (P : Type 0) → IsOutside h → UnlessFault (refusal_of_piece h) P
-outside halt.Fault P is = tt
-outside halt.Memory P is = tt
-outside halt.Bad P is = absurd is
-outside halt.Long P is = absurd is
-outside halt.Cut P is = absurd is
 
 -- one more call for bytes up to the end of the stream
 pub rest_open : {S : Type 0} (gave : S → S → List ℕ → Type 0) (a b c : S) (kept body new : List ℕ) (n : ℕ) → Passes gave a kept b body → length body ≤ body_limit → Adds gave b c body new n → n ≤ call_limit → IsPrompt gave a kept c (λ (seen : List ℕ). length seen ≤ body_limit)
@@ -41,9 +34,15 @@ rest_open gave a b c kept body new n passes within adds few =
       few = record { doubled = omega (arith, adds.count, few); within = omega (arith, adds.count, few) };
     })
 
--- the end of the stream
-pub rest_end : {S : Type 0} (gave : S → S → List ℕ → Type 0) (a c : S) (kept body : List ℕ) → Passes gave a kept c body → length body ≤ body_limit → IsPrompt gave a kept c (λ (seen : List ℕ). length seen ≤ body_limit)
-rest_end gave a c kept body passes within = all_open gave a c kept body (λ (seen : List ℕ). length seen ≤ body_limit) passes within
+but_map : {A : Type 0} (r : Result A ReadRefusal) (P Q : Type 0) → (P → Q) → ButForFaults r P → ButForFaults r Q
+but_map (Ok x) P Q go p = go p
+but_map (Err e) P Q go p = refused_map e P Q go p
+
+-- a body whose end is found so
+pub framed_prompt : {A S : Type 0} (gave : S → S → List ℕ → Type 0) (s t : S) (kept : List ℕ) (framing : Framing) (end : BodyEnd) (r : Result A ReadRefusal) → end ≡ Framed framing → ButForFaults r (IsPrompt gave s kept t (λ (seen : List ℕ). IsRefusedBody framing seen refusal.Truncated)) → ButForFaults r (IsPrompt gave s kept t (IsOpenBodyAt end))
+framed_prompt gave s t kept framing end r is p =
+    let Cut : List ℕ → Type 0 = λ (seen : List ℕ). IsRefusedBody framing seen refusal.Truncated in
+    subst (λ (e : BodyEnd). ButForFaults r (IsPrompt gave s kept t (IsOpenBodyAt e))) (sym is) (but_map r (IsPrompt gave s kept t Cut) (IsPrompt gave s kept t (IsOpenBodyAt (Framed framing))) (λ q. prompt_map gave s t kept Cut (IsOpenBodyAt (Framed framing)) (λ seen cut. cut) q) p)
 
 pub head_prompt : {S : Type 0} (gave : S → S → List ℕ → Type 0) (s t : S) (kept : List ℕ) → kept ≡ [] → IsPrompt gave s kept t (λ (seen : List ℕ). IsRefusedHead seen refusal.Truncated) → IsPrompt gave s [] t IsOpen
 head_prompt gave s t kept empty p =

@@ -14,8 +14,8 @@ use httparse::spans::{HeaderSpan, ResponseSpans, parse_response};
 use std::alloc::{AllocError, Global};
 use std::marker::Model;
 use uss_http_base::{
-    Framing, Intake, Look, Piece, ROOM, ReadRefusal, Stream, body_framing, fields_may_end, head_refusal, places,
-    take_piece,
+    Framing, Intake, Look, Piece, ROOM, ReadRefusal, Stream, body_framing, fields_may_end,
+    head_refusal, places, take_piece,
 };
 
 /// Heads of responses, with the places of the fields of the last one that was found.
