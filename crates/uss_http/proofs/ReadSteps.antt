@@ -6,7 +6,8 @@ use Rattle.uss_http_base.specs.declared.refusal.ReadRefusal.TheVariants as read
 use Rattle.uss_http_response.specs.declared.response.Response.{Response}
 use Rattle.uss_http_response.specs.Responses.{IsAnswerOf}
 use Rattle.uss_http_response.specs.Dials.{IsReceived}
-use Rattle.uss_http.specs.Refusals.{refusal_over}
+use Rattle.uss_http_base.specs.Prompt as prompt
+use Rattle.uss_http.specs.Refusals.{refusal_of, refusal_over, UnlessFault}
 use Rattle.uss_http.specs.Responses.{IsReadOf, IsReadOver}
 
 pub read_ok : (talks : List Talk) (after : Option (List Talk)) (response : Response) → IsReceived talks after (Ok response) → IsReadOver talks after (Ok response)
@@ -24,3 +25,23 @@ refused_of bytes read.Memory r = tt
 
 pub read_err : (talks : List Talk) (after : Option (List Talk)) (e : ReadRefusal) → IsReceived talks after (Err e) → IsReadOver talks after (Err (refusal_over e))
 read_err talks after e is = record { bytes = is.bytes; is_end = is.is_end; told = is.told; is_answer = λ more none. refused_of (is.bytes ++ more) e (is.is_answer more none) }
+
+pub fault_of : (e : ReadRefusal) (P : Type 0) → prompt.UnlessFault e P → UnlessFault (refusal_of e) P
+fault_of read.HeadTooLarge P p = p
+fault_of read.BadHead P p = p
+fault_of read.BodyTooLarge P p = p
+fault_of read.BadChunk P p = p
+fault_of read.Truncated P p = p
+fault_of read.NoClient P p = p
+fault_of read.Fault P p = tt
+fault_of read.Memory P p = tt
+
+pub fault_over : (e : ReadRefusal) (P : Type 0) → prompt.UnlessFault e P → UnlessFault (refusal_over e) P
+fault_over read.HeadTooLarge P p = p
+fault_over read.BadHead P p = p
+fault_over read.BodyTooLarge P p = p
+fault_over read.BadChunk P p = p
+fault_over read.Truncated P p = p
+fault_over read.NoClient P p = p
+fault_over read.Fault P p = tt
+fault_over read.Memory P p = tt

@@ -58,3 +58,22 @@ IsReadFrom bytes (Err refusal.Memory) = Unit {0}
 IsReadFrom bytes (Err refusal.NoRoute) = ⊥
 IsReadFrom bytes (Err (refusal.WrongMethod allowed)) = ⊥
 IsReadFrom bytes (Err refusal.DialFault) = ⊥
+
+-- the fact, unless a fault or want of memory came
+abbrev pub UnlessFault : HttpRefusal → Type 0 → Type 0
+UnlessFault refusal.ReadFault P = Unit {0}
+UnlessFault refusal.DialFault P = Unit {0}
+UnlessFault refusal.Memory P = Unit {0}
+UnlessFault refusal.HeadTooLarge P = P
+UnlessFault refusal.BadHead P = P
+UnlessFault refusal.BodyTooLarge P = P
+UnlessFault refusal.BadChunk P = P
+UnlessFault refusal.Truncated P = P
+UnlessFault refusal.NoClient P = P
+UnlessFault refusal.NoRoute P = P
+UnlessFault (refusal.WrongMethod allowed) P = P
+
+-- the same of an answer
+abbrev pub ButForFaults : {A : Type 0} → Result A HttpRefusal → Type 0 → Type 0
+ButForFaults (Ok x) P = P
+ButForFaults (Err e) P = UnlessFault e P

@@ -16,7 +16,9 @@ use Rattle.uss_http_base.specs.Streams.{Passes, UnlessOutside, Moves, Lacks, IsE
 use Rattle.uss_http_base.specs.Chunks.{Chunk, IsChunk, print_chunk, chunks_text, body_of, ChunkFault, bad_trailers, long_trailers, IsTooMuch, IsCutOff, in_trailers, StopsWhere, AreOpenTrailers}
 use Rattle.uss_http_base.specs.ChunkAnswers.{MissesChunk, TakesChunk, TakesLast, TakesChunks, refusal_of_piece}
 use Rattle.uss_http_base.specs.BodyAnswers.{TakesToLast, TakesTrailers, MissesTrailers}
-use Rattle.uss_http_base.specs.Bodies.{TakesBody, MissesBody}
+use Rattle.uss_http_base.specs.Bodies.{IsRefusedBody, TakesBody, MissesBody}
+use Rattle.uss_http_base.specs.Prompt.{IsPrompt}
+use Rattle.uss_http_base.proofs.Prompting.{prompt_map, prompt_then}
 use Rattle.uss_http_base.proofs.Passing.{passes_same, passes_then, passes_behind}
 use Rattle.uss_http_base.proofs.HeadSteps.{short_front}
 use Rattle.uss_http_base.proofs.ChunkSteps.{at_front}
@@ -126,3 +128,19 @@ sized_too_large gave ended a kept n over = record { all = kept; passes = passes_
 
 pub nothing_taken : {S : Type 0} (gave : S → S → List ℕ → Type 0) (a : S) (kept body : List ℕ) → body ≡ [] → TakesBody gave a kept a Nothing body
 nothing_taken gave a kept body empty = record { all = kept; passes = passes_same gave a kept; is_body = empty }
+
+-- behind the chunks read so far, reading stops soon
+pub chunks_prompt : {S : Type 0} (gave : S → S → List ℕ → Type 0) (a b c : S) (kept left body : List ℕ) → TakesChunks gave a kept b left body → IsPrompt gave a kept b (StopsWhere IsCutOff) → IsPrompt gave b left c (IsCutOff (length body)) → IsPrompt gave a kept c (StopsWhere IsCutOff)
+chunks_prompt gave a b c kept left body had one two =
+    prompt_then gave a b c kept left (chunks_text had.chunks) (StopsWhere IsCutOff) (IsCutOff (length body)) had.passes one two (λ seen cut. stops_behind had.chunks body seen IsCutOff had.are_chunks had.carried had.within cut)
+
+-- and in the trailers
+pub trailers_prompt : {S : Type 0} (gave : S → S → List ℕ → Type 0) (a b c : S) (kept left body : List ℕ) → TakesToLast gave a kept b left body → IsPrompt gave a kept b (StopsWhere IsCutOff) → IsPrompt gave b left c (λ (seen : List ℕ). (length seen < piece_limit) × AreOpenTrailers seen) → IsPrompt gave a kept c (StopsWhere IsCutOff)
+trailers_prompt gave a b c kept left body had one two =
+    let text = chunks_text had.chunks in
+    let line = print_chunk_line had.line in
+    prompt_then gave a b c kept left (text ++ line) (StopsWhere IsCutOff) (λ (seen : List ℕ). (length seen < piece_limit) × AreOpenTrailers seen) (subst (Passes gave a kept b) (sym (append_assoc text line left)) had.passes) one two (λ seen is. subst (StopsWhere IsCutOff) (sym (append_assoc text line seen)) (stops_behind had.chunks body (line ++ seen) IsCutOff had.are_chunks had.carried had.within (in_trailers had.line seen had.is_last refl is.0 is.1)))
+
+-- in a body by its length
+pub sized_prompt : {S : Type 0} (gave : S → S → List ℕ → Type 0) (a b : S) (kept : List ℕ) (n : ℕ) → n ≤ body_limit → IsPrompt gave a kept b (λ (seen : List ℕ). length seen < n) → IsPrompt gave a kept b (λ (seen : List ℕ). IsRefusedBody (Length n) seen refusal.Truncated)
+sized_prompt gave a b kept n within p = prompt_map gave a b kept (λ (seen : List ℕ). length seen < n) (λ (seen : List ℕ). IsRefusedBody (Length n) seen refusal.Truncated) (λ seen short. (within, short)) p

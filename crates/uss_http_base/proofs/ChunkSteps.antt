@@ -10,9 +10,11 @@ use Rattle.uss_http_base.specs.declared.halt.Halt.TheVariants as halt
 use Rattle.uss_http_base.specs.Pieces.{piece_limit}
 use Rattle.uss_http_base.specs.Fields.{body_limit}
 use Rattle.uss_http_base.specs.Streams.{Passes, UnlessOutside, Moves, Lacks, IsEndOrOutside}
-use Rattle.uss_http_base.specs.Chunks.{IsOpenLine, HasData, no_line, long_line, no_line_end, IsTooMuch, in_line, in_data, before_line_end, HasLineEnd, IsOpenLineEnd, NeverHasLineEnd}
+use Rattle.uss_http_base.specs.Chunks.{IsOpenLine, HasData, no_line, long_line, no_line_end, IsTooMuch, IsCutOff, in_line, in_data, before_line_end, HasLineEnd, IsOpenLineEnd, NeverHasLineEnd}
 use Rattle.uss_http_base.specs.ChunkAnswers.{TakesSize, ShowsStop, MissesChunk, MissesLineEnd, TakesChunk, TakesLast, refusal_of_piece}
+use Rattle.uss_http_base.specs.Prompt.{IsPrompt}
 use Rattle.uss_http_base.proofs.Passing.{passes_then, passes_behind}
+use Rattle.uss_http_base.proofs.Prompting.{prompt_map, prompt_then}
 use Rattle.uss_http_base.proofs.HeadSteps.{behind, short_front}
 
 -- a text at the front of the first 16 KiB is at the front of the bytes
@@ -139,3 +141,23 @@ chunk_taken gave before first second third kept left rest left_over old new size
       within = omega (arith, ap length moves.added, length-append old moves.moved, moves.count);
       passes = subst (Passes gave before kept third) text (data_passes gave before first second third kept left rest old new (crlf_bytes ++ left_over) size taken moves last);
     }
+
+-- in the size line, reading stops soon
+pub line_prompt : {S : Type 0} (gave : S → S → List ℕ → Type 0) (a b : S) (kept : List ℕ) (so_far : ℕ) → IsPrompt gave a kept b (λ (seen : List ℕ). (length seen < piece_limit) × IsOpenLine seen) → IsPrompt gave a kept b (IsCutOff so_far)
+line_prompt gave a b kept so_far p = prompt_map gave a b kept (λ (seen : List ℕ). (length seen < piece_limit) × IsOpenLine seen) (IsCutOff so_far) (λ seen is. in_line is.0 is.1) p
+
+data_cut : {S : Type 0} (gave : S → S → List ℕ → Type 0) (before middle : S) (kept left seen : List ℕ) (size so_far : ℕ) (taken : TakesSize gave before kept middle left size) → 0 < size → so_far + size ≤ body_limit → length seen < size → IsCutOff so_far (print_chunk_line taken.line ++ seen)
+data_cut gave before middle kept left seen size so_far taken some within short = in_data taken.line seen (record { line_is = taken.line_is; spelled = refl }) (omega (arith, taken.size_is)) (omega (arith, taken.size_is)) (omega (arith, taken.size_is, short))
+
+-- in the bytes of a chunk
+pub data_prompt : {S : Type 0} (gave : S → S → List ℕ → Type 0) (a b c : S) (kept left : List ℕ) (size so_far : ℕ) → TakesSize gave a kept b left size → 0 < size → so_far + size ≤ body_limit → IsPrompt gave a kept b (λ (seen : List ℕ). (length seen < piece_limit) × IsOpenLine seen) → IsPrompt gave b left c (λ (seen : List ℕ). length seen < size) → IsPrompt gave a kept c (IsCutOff so_far)
+data_prompt gave a b c kept left size so_far taken some within one two =
+    prompt_then gave a b c kept left (print_chunk_line taken.line) (IsCutOff so_far) (λ (seen : List ℕ). length seen < size) taken.passes (line_prompt gave a b kept so_far one) two (λ seen short. data_cut gave a b kept left seen size so_far taken some within short)
+
+-- before the CR LF behind them
+pub end_prompt : {S : Type 0} (gave : S → S → List ℕ → Type 0) (a b c d : S) (kept left rest old new : List ℕ) (size so_far : ℕ) → TakesSize gave a kept b left size → Moves gave b left c rest old new size → 0 < size → so_far + size ≤ body_limit → IsPrompt gave a kept b (λ (seen : List ℕ). (length seen < piece_limit) × IsOpenLine seen) → IsPrompt gave b left c (λ (seen : List ℕ). length seen < size) → IsPrompt gave c rest d (λ (seen : List ℕ). (length seen < piece_limit) × IsOpenLineEnd seen) → IsPrompt gave a kept d (IsCutOff so_far)
+end_prompt gave a b c d kept left rest old new size so_far taken moves some within one two three =
+    let Cut : List ℕ → Type 0 = λ (seen : List ℕ). IsCutOff so_far (print_chunk_line taken.line ++ seen) in
+    let moved = prompt_map gave b c left (λ (seen : List ℕ). length seen < size) Cut (λ seen short. data_cut gave a b kept left seen size so_far taken some within short) two in
+    let both = prompt_then gave b c d left rest moves.moved Cut (λ (seen : List ℕ). (length seen < piece_limit) × IsOpenLineEnd seen) moves.passes moved three (λ seen is. before_line_end taken.line seen (data_of gave a b c kept left rest old new seen size so_far taken moves some within) is.1) in
+    prompt_then gave a b d kept left (print_chunk_line taken.line) (IsCutOff so_far) Cut taken.passes (line_prompt gave a b kept so_far one) both (λ seen is. is)

@@ -1,4 +1,5 @@
 pub mod Passing
+pub mod Prompting
 pub mod Room
 pub mod Targets
 pub mod Fronts

@@ -6,9 +6,11 @@ use Rattle.uss_http_base.specs.declared.request.Request.{Request}
 use Rattle.uss_http_base.specs.declared.refusal.ReadRefusal.{ReadRefusal}
 use Rattle.uss_http_base.specs.declared.refusal.ReadRefusal.TheVariants as refusal
 use Rattle.uss_http_base.specs.Streams.{Passes}
-use Rattle.uss_http_base.specs.HeadAnswers.{HasHead, TakesHead, ShowsNoHead, MissesHead}
-use Rattle.uss_http_base.specs.Bodies.{IsBody, TakesBody, ShowsNoBody, MissesBody}
+use Rattle.uss_http_base.specs.HeadAnswers.{HasHead, IsRefusedHead, TakesHead, ShowsNoHead, MissesHead}
+use Rattle.uss_http_base.specs.Bodies.{IsBody, IsRefusedBody, TakesBody, ShowsNoBody, MissesBody}
 use Rattle.uss_http_base.specs.Requests.{IsRefused, IsAnswerOf, ShowsAnswer, AnswersStream}
+use Rattle.uss_http_base.specs.Prompt.{IsPrompt}
+use Rattle.uss_http_base.proofs.Prompting.{prompt_map, prompt_then}
 use Rattle.uss_http_base.proofs.Passing.{passes_then, passes_behind}
 
 -- what came since a moment at which nothing was kept
@@ -65,3 +67,14 @@ request_taken gave ended s t u kept left body head request nothing empty taken h
       is_answer = record { head = head; rest = had.all; has_head = with_rest taken.all left had.all head taken.has; method_is = method; path_is = path; client_is = client; has_body = subst (IsBody head.framing had.all) (sym same_body) had.is_body };
       end = λ same. absurd (cc);
     }
+
+-- in the head, reading stops soon
+pub head_prompt : {S : Type 0} (gave : S → S → List ℕ → Type 0) (s t : S) (kept : List ℕ) → kept ≡ [] → IsPrompt gave s kept t (λ (seen : List ℕ). IsRefusedHead seen refusal.Truncated) → IsPrompt gave s [] t (λ (seen : List ℕ). IsRefused seen refusal.Truncated)
+head_prompt gave s t kept empty p =
+    subst (λ (k : List ℕ). IsPrompt gave s k t (λ (seen : List ℕ). IsRefused seen refusal.Truncated)) empty (prompt_map gave s t kept (λ (seen : List ℕ). IsRefusedHead seen refusal.Truncated) (λ (seen : List ℕ). IsRefused seen refusal.Truncated) (λ seen is. inl is) p)
+
+-- and in the body
+pub body_prompt : {S : Type 0} (gave : S → S → List ℕ → Type 0) (s t u : S) (kept left : List ℕ) (head : Head) → kept ≡ [] → TakesHead gave s kept t left head → IsPrompt gave s kept t (λ (seen : List ℕ). IsRefusedHead seen refusal.Truncated) → IsPrompt gave t left u (λ (seen : List ℕ). IsRefusedBody head.framing seen refusal.Truncated) → IsPrompt gave s [] u (λ (seen : List ℕ). IsRefused seen refusal.Truncated)
+body_prompt gave s t u kept left head empty taken one two =
+    let passes : Passes gave s [] t (print_request taken.has.tree ++ left) = subst (λ (k : List ℕ). Passes gave s k t (print_request taken.has.tree ++ left)) empty (subst (Passes gave s kept t) taken.has.begins.spelled taken.passes) in
+    prompt_then gave s t u [] left (print_request taken.has.tree) (λ (seen : List ℕ). IsRefused seen refusal.Truncated) (λ (seen : List ℕ). IsRefusedBody head.framing seen refusal.Truncated) passes (head_prompt gave s t kept empty one) two (λ seen is. inr (record { head = head; rest = seen; has_head = with_rest taken.all left seen head taken.has; refused = is }))

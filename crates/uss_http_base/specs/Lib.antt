@@ -1,5 +1,6 @@
 pub mod Streams
 pub mod Pieces
+pub mod Prompt
 pub mod Heads
 pub mod Target
 pub mod Fields

@@ -1,11 +1,12 @@
 -- Requests as bytes: a head, and the body that its fields announce. RFC 9112, in the profile of this project.
-use Rattle.std.specs.Prelude.{◌≡◌, ℕ, ◌⊎◌, List, Result, Ok, Err}
+use Rattle.std.specs.Prelude.{◌≡◌, ℕ, ◌⊎◌, List, [], ◌++◌, Option, Some, Result, Ok, Err}
 use Rattle.uss_http_base.specs.declared.heads.Head.{Head}
 use Rattle.uss_http_base.specs.declared.request.Request.{Request}
 use Rattle.uss_http_base.specs.declared.refusal.ReadRefusal.{ReadRefusal}
 use Rattle.uss_http_base.specs.declared.refusal.ReadRefusal.TheVariants as refusal
 use Rattle.uss_http_base.specs.HeadAnswers.{HasHead, IsRefusedHead}
 use Rattle.uss_http_base.specs.Bodies.{IsBody, IsRefusedBody}
+use Rattle.uss_http_base.specs.Prompt.{AreFew}
 
 -- the bytes begin with this request
 pub record IsRequest (bytes : List ℕ) (request : Request) : Type 0 where
@@ -60,3 +61,14 @@ AnswersStream gave ended before after (Err refusal.NoClient) = ShowsAnswer gave 
 AnswersStream gave ended before after (Err refusal.BodyTooLarge) = ShowsAnswer gave ended before after (Err refusal.BodyTooLarge)
 AnswersStream gave ended before after (Err refusal.BadChunk) = ShowsAnswer gave ended before after (Err refusal.BadChunk)
 AnswersStream gave ended before after (Err refusal.Truncated) = ShowsAnswer gave ended before after (Err refusal.Truncated)
+
+-- Of the bytes that were left, those that were taken are some that are no whole message and may become one, or none at all, and
+-- few behind them. The others are left.
+pub record ReadsPromptly (left : List ℕ) (after : Option (List ℕ)) : Type 0 where
+  pub seen : List ℕ
+  pub late : List ℕ
+  pub rest : List ℕ
+  pub parts : left ≡ (seen ++ late) ++ rest
+  pub is_left : after ≡ Some rest
+  pub was_open : (seen ≡ []) ⊎ IsRefused seen refusal.Truncated
+  pub few : AreFew seen late

@@ -1,7 +1,9 @@
 ghost use Rattle.std.specs.Prelude.{◌≡◌, ℕ, [], ◌≤◌, length, Err, IfOk, IfErr, OnOk};
 ghost use Rattle.uss_cause.specs.Cause.{Rose};
-ghost use Rattle.uss_http_base.specs.Bodies.{TakesBody, MissesBody};
+ghost use Rattle.uss_http_base.specs.Bodies.{IsRefusedBody, TakesBody, MissesBody};
 ghost use Rattle.uss_http_base.specs.BodyAnswers.{TakesToLast};
+ghost use Rattle.uss_http_base.specs.Chunks.{IsCutOff, StopsWhere};
+ghost use Rattle.uss_http_base.specs.Prompt.{IsPrompt, ButForFaults};
 ghost use Rattle.uss_http_base.specs.Streams.{Hears};
 
 use crate::chunk::{BODY_LIMIT, Turn, piece_refusal, take_chunk};
@@ -14,7 +16,7 @@ use crate::trailers::{Trailers, take_trailers};
 use std::alloc::{AllocError, Global};
 
 /// Takes chunks up to and with the last line, and adds their bytes to the body.
-#[tactic(auto, using(crate::proofs::Passing::hears_then, crate::proofs::Passing::hears_same))]
+#[tactic(auto, using(crate::proofs::Passing::hears_then, crate::proofs::Passing::hears_same, crate::proofs::Prompting::prompt_same))]
 fn take_chunks<K, T: Stream<K>>(
     stream: &mut T,
     intake: &mut Intake,
@@ -23,6 +25,7 @@ fn take_chunks<K, T: Stream<K>>(
     requires { body.old.items ≡ [] }
     ensures taken { OnOk result (TakesToLast T.gave stream.old intake.old stream.new intake.new body.new.items) }
     ensures refused { IfErr result (MissesBody T.gave T.ended stream.old intake.old stream.new Framing.Chunked) }
+    ensures prompt { ButForFaults result (IsPrompt T.gave stream.old intake.old stream.new (StopsWhere IsCutOff)) }
     ensures kept { T.faults stream.old ≤ T.faults stream.new }
     ensures heard { Hears T.gave stream.old stream.new }
     ensures fault { result ≡ Err ReadRefusal.Fault → Rose (T.faults stream.old) (T.faults stream.new) }
@@ -47,6 +50,7 @@ fn take_chunked<K, T: Stream<K>>(
     requires { body.old.items ≡ [] }
     ensures taken { OnOk result (TakesBody T.gave stream.old intake.old stream.new Framing.Chunked body.new.items) }
     ensures refused { IfErr result (MissesBody T.gave T.ended stream.old intake.old stream.new Framing.Chunked) }
+    ensures prompt { ButForFaults result (IsPrompt T.gave stream.old intake.old stream.new (StopsWhere IsCutOff)) }
     ensures kept { T.faults stream.old ≤ T.faults stream.new }
     ensures heard { Hears T.gave stream.old stream.new }
     ensures fault { result ≡ Err ReadRefusal.Fault → Rose (T.faults stream.old) (T.faults stream.new) }
@@ -76,6 +80,7 @@ fn take_sized<K, T: Stream<K>>(
     requires { body.old.items ≡ [] }
     ensures taken { OnOk result (TakesBody T.gave stream.old intake.old stream.new (Framing.Length count) body.new.items) }
     ensures refused { IfErr result (MissesBody T.gave T.ended stream.old intake.old stream.new (Framing.Length count)) }
+    ensures prompt { ButForFaults result (IsPrompt T.gave stream.old intake.old stream.new (λ seen. IsRefusedBody (Framing.Length count) seen ReadRefusal.Truncated)) }
     ensures kept { T.faults stream.old ≤ T.faults stream.new }
     ensures heard { Hears T.gave stream.old stream.new }
     ensures fault { result ≡ Err ReadRefusal.Fault → Rose (T.faults stream.old) (T.faults stream.new) }
@@ -99,6 +104,7 @@ pub fn take_body<K, T: Stream<K>>(
 ) -> Result<Vec<u8>, ReadRefusal>
     ensures taken { IfOk result (λ body. TakesBody T.gave stream.old intake.old stream.new framing body.items) }
     ensures refused { IfErr result (MissesBody T.gave T.ended stream.old intake.old stream.new framing) }
+    ensures prompt { ButForFaults result (IsPrompt T.gave stream.old intake.old stream.new (λ seen. IsRefusedBody framing seen ReadRefusal.Truncated)) }
     ensures kept { T.faults stream.old ≤ T.faults stream.new }
     ensures heard { Hears T.gave stream.old stream.new }
     ensures fault { result ≡ Err ReadRefusal.Fault → Rose (T.faults stream.old) (T.faults stream.new) }

@@ -1,8 +1,11 @@
-ghost use Rattle.std.specs.Prelude.{◌≡◌, ℕ, ◌++◌, ◌≤◌, length, Ok, Err, IfOk, IfErr, OnOk};
+ghost use Rattle.std.specs.Prelude.{◌≡◌, ℕ, ◌++◌, ◌<◌, ◌≤◌, length, Ok, Err, IfOk, IfErr, OnOk};
 ghost use Rattle.httparse.specs.Ascii.{crlf_bytes};
 ghost use Rattle.uss_cause.specs.Cause.{Rose};
-ghost use Rattle.uss_http_base.specs.Streams.{Hears, Passes};
+ghost use Rattle.uss_http_base.specs.Streams.{Hears, Passes, UnlessOutside};
+ghost use Rattle.uss_http_base.specs.Chunks.{IsOpenLine, IsOpenLineEnd, IsCutOff};
 ghost use Rattle.uss_http_base.specs.Fields.{body_limit};
+ghost use Rattle.uss_http_base.specs.Pieces.{piece_limit};
+ghost use Rattle.uss_http_base.specs.Prompt.{IsPrompt, ButForFaults};
 ghost use Rattle.uss_http_base.specs.ChunkAnswers.{TakesSize, MissesChunk, MissesLineEnd, TakesChunk, TakesLast, refusal_of_piece};
 
 use crate::chunk_pieces::{ChunkEnd, SizeLine};
@@ -42,6 +45,7 @@ pub fn piece_refusal(halt: Halt) -> ReadRefusal
 fn take_size<K, T: Stream<K>>(stream: &mut T, intake: &mut Intake) -> Result<u64, ReadRefusal>
     ensures taken { IfOk result (TakesSize T.gave stream.old intake.old stream.new intake.new) }
     ensures refused { (so_far : ℕ) → IfErr result (MissesChunk T.gave T.ended stream.old intake.old stream.new so_far) }
+    ensures prompt { ButForFaults result (IsPrompt T.gave stream.old intake.old stream.new (λ seen. (length seen < piece_limit) × IsOpenLine seen)) }
     ensures kept { T.faults stream.old ≤ T.faults stream.new }
     ensures heard { Hears T.gave stream.old stream.new }
     ensures fault { result ≡ Err ReadRefusal.Fault → Rose (T.faults stream.old) (T.faults stream.new) }
@@ -59,6 +63,7 @@ fn take_size<K, T: Stream<K>>(stream: &mut T, intake: &mut Intake) -> Result<u64
 fn take_line_end<K, T: Stream<K>>(stream: &mut T, intake: &mut Intake) -> Result<(), Halt>
     ensures taken { OnOk result (Passes T.gave stream.old intake.old stream.new (crlf_bytes ++ intake.new)) }
     ensures refused { IfErr result (MissesLineEnd T.gave T.ended stream.old intake.old stream.new) }
+    ensures prompt { UnlessOutside result (IsPrompt T.gave stream.old intake.old stream.new (λ seen. (length seen < piece_limit) × IsOpenLineEnd seen)) }
     ensures kept { T.faults stream.old ≤ T.faults stream.new }
     ensures heard { Hears T.gave stream.old stream.new }
     ensures fault { result ≡ Err Halt.Fault → Rose (T.faults stream.old) (T.faults stream.new) }
@@ -82,6 +87,7 @@ pub fn take_chunk<K, T: Stream<K>>(
     ensures chunk { result ≡ Ok Turn.Chunk → TakesChunk T.gave stream.old intake.old stream.new intake.new body.old.items body.new.items }
     ensures last { result ≡ Ok Turn.Last → TakesLast T.gave stream.old intake.old stream.new intake.new body.old.items body.new.items }
     ensures refused { IfErr result (MissesChunk T.gave T.ended stream.old intake.old stream.new (length body.old.items)) }
+    ensures prompt { ButForFaults result (IsPrompt T.gave stream.old intake.old stream.new (IsCutOff (length body.old.items))) }
     ensures kept { T.faults stream.old ≤ T.faults stream.new }
     ensures heard { Hears T.gave stream.old stream.new }
     ensures fault { result ≡ Err ReadRefusal.Fault → Rose (T.faults stream.old) (T.faults stream.new) }

@@ -17,7 +17,7 @@ impl Piece for SizeLine {
 
     ghost found = { λ _ bytes found. (line : ChunkLine) × IsChunkLineAt bytes found.0 found.1 line };
 
-    ghost unfinished = { λ _ bytes. IsOpenLine bytes };
+    ghost unfinished = { λ bytes. IsOpenLine bytes };
 
     ghost never = { λ _ bytes. NeverHasChunkLine bytes };
 
@@ -27,6 +27,10 @@ impl Piece for SizeLine {
             Ok(Status::Partial) => Look::NotYet,
             Err(_) => Look::Never,
         }
+    }
+
+    fn may_end(&self, bytes: &[u8], from: usize) -> bool {
+        bytes[from..].contains(&b'\n')
     }
 }
 
@@ -39,7 +43,7 @@ impl Piece for ChunkEnd {
 
     ghost found = { λ _ bytes _. HasLineEnd bytes };
 
-    ghost unfinished = { λ _ bytes. IsOpenLineEnd bytes };
+    ghost unfinished = { λ bytes. IsOpenLineEnd bytes };
 
     ghost never = { λ _ bytes. NeverHasLineEnd bytes };
 
@@ -57,5 +61,9 @@ impl Piece for ChunkEnd {
             return Look::Never;
         }
         Look::Whole(())
+    }
+
+    fn may_end(&self, bytes: &[u8], from: usize) -> bool {
+        from < bytes.len()
     }
 }

@@ -1,13 +1,14 @@
-ghost use Rattle.std.specs.Prelude.{◌≡◌, ◌≤◌, Err, IfErr, OnOk};
+ghost use Rattle.std.specs.Prelude.{◌≡◌, ◌<◌, ◌≤◌, length, Err, IfErr, OnOk};
 ghost use Rattle.uss_cause.specs.Cause.{Rose};
-ghost use Rattle.uss_http_base.specs.Streams.{Hears, Moves, Lacks, IsEndOrOutside};
+ghost use Rattle.uss_http_base.specs.Prompt.{IsPrompt};
+ghost use Rattle.uss_http_base.specs.Streams.{Hears, Moves, Lacks, IsEndOrOutside, UnlessOutside};
 
 use crate::halt::Halt;
 use crate::intake::Intake;
 use crate::stream::Stream;
 
 /// Moves so many bytes to the end of the body: those not yet used, and then the next ones of the stream.
-#[tactic(auto, using(crate::proofs::Passing::hears_then, crate::proofs::Passing::hears_same))]
+#[tactic(auto, using(crate::proofs::Passing::hears_then, crate::proofs::Passing::hears_same, crate::proofs::Prompting::prompt_same))]
 pub fn take_data<K, T: Stream<K>>(
     stream: &mut T,
     intake: &mut Intake,
@@ -16,6 +17,7 @@ pub fn take_data<K, T: Stream<K>>(
 ) -> Result<(), Halt>
     ensures done { OnOk result (Moves T.gave stream.old intake.old stream.new intake.new body.old.items body.new.items count) }
     ensures cut { result ≡ Err Halt.Cut → Lacks T.gave T.ended stream.old intake.old stream.new count }
+    ensures prompt { UnlessOutside result (IsPrompt T.gave stream.old intake.old stream.new (λ seen. length seen < count)) }
     ensures kept { T.faults stream.old ≤ T.faults stream.new }
     ensures heard { Hears T.gave stream.old stream.new }
     ensures fault { result ≡ Err Halt.Fault → Rose (T.faults stream.old) (T.faults stream.new) }

@@ -2,13 +2,15 @@ ghost use Rattle.std.specs.Prelude.{◌≡◌, ◌≤◌, List, length, map, All
 ghost use Rattle.httparse.specs.Spans.{IsRequestOf, IsRequestWithin, IsWithin, IsHeaderWithin, span_bytes, header_bytes};
 ghost use Rattle.uss_cause.specs.Cause.{Rose};
 ghost use Rattle.uss_http_base.specs.Heads.{IsOpenHead, BeginsNoHead};
-ghost use Rattle.uss_http_base.specs.HeadAnswers.{IsHeadAt, TakesHead, MissesHead, refusal_of_head};
+ghost use Rattle.uss_http_base.specs.HeadAnswers.{IsHeadAt, IsRefusedHead, TakesHead, MissesHead, refusal_of_head};
 ghost use Rattle.uss_http_base.specs.Pieces.{MatchLook, piece_limit};
+ghost use Rattle.uss_http_base.specs.Prompt.{IsPrompt, ButForFaults};
 ghost use Rattle.uss_http_base.specs.Streams.{Hears};
 
 use crate::fields::{Framing, body_framing, client_name};
 use crate::halt::Halt;
 use crate::intake::Intake;
+use crate::line_ends::fields_may_end;
 use crate::piece::{Look, Piece, take_piece};
 use crate::refusal::ReadRefusal;
 use crate::stream::Stream;
@@ -71,12 +73,16 @@ impl Piece for RequestHeads {
 
     ghost found = { λ heads bytes spans. IsRequestOf bytes heads spans × IsRequestWithin bytes heads spans };
 
-    ghost unfinished = { λ _ bytes. IsOpenHead bytes };
+    ghost unfinished = { λ bytes. IsOpenHead bytes };
 
     ghost never = { λ _ bytes. BeginsNoHead bytes };
 
     fn look(&mut self, bytes: &[u8]) -> Look<RequestSpans> {
         look_for_head(bytes, self.headers.as_mut_slice())
+    }
+
+    fn may_end(&self, bytes: &[u8], from: usize) -> bool {
+        fields_may_end(bytes, from)
     }
 }
 
@@ -179,6 +185,7 @@ pub fn take_head<K, T: Stream<K>>(
 ) -> Result<Head, ReadRefusal>
     ensures taken { IfOk result (TakesHead T.gave stream.old intake.old stream.new intake.new) }
     ensures refused { IfErr result (MissesHead T.gave T.ended stream.old intake.old stream.new) }
+    ensures prompt { ButForFaults result (IsPrompt T.gave stream.old intake.old stream.new (λ seen. IsRefusedHead seen ReadRefusal.Truncated)) }
     ensures kept { T.faults stream.old ≤ T.faults stream.new }
     ensures heard { Hears T.gave stream.old stream.new }
     ensures fault { result ≡ Err ReadRefusal.Fault → Rose (T.faults stream.old) (T.faults stream.new) }

@@ -1,6 +1,7 @@
 ghost use Rattle.std.specs.Prelude.{◌≡◌, ℕ, ◌+◌, ◌<◌, ◌≤◌, ◌++◌, [], List, length, drop, take, Ok, Err, IfOk, IfErr, OnOk, IsErrOf};
 ghost use Rattle.uss_cause.specs.Cause.{Rose};
 ghost use Rattle.uss_http_base.specs.Pieces.{piece_limit};
+ghost use Rattle.uss_http_base.specs.Prompt.{GrowsBy, call_limit};
 ghost use Rattle.uss_http_base.specs.Streams.{Hears, Passes, Adds, IsOutside};
 
 use crate::halt::Halt;
@@ -35,13 +36,13 @@ pub struct Intake {
 }
 
 impl Model for Intake {
-    ghost use Rattle.std.specs.Prelude.{List, ℕ, ◌≤◌, ◌<◌, length, drop};
+    ghost use Rattle.std.specs.Prelude.{◌≡◌, List, ℕ, ◌≤◌, length, drop};
 
     ghost Value = { List ℕ };
 
     ghost view = { λ i. drop i.start i.bytes.items };
 
-    ghost invariant = { λ i. (i.start ≤ length i.bytes.items) × (0 < length i.piece.items) };
+    ghost invariant = { λ i. (i.start ≤ length i.bytes.items) × (length i.piece.items ≡ 16384) };
 }
 
 /// So many zeros, to be read over.
@@ -148,6 +149,7 @@ impl Intake {
         ensures same { result ≡ Ok More.End → self.new ≡ self.old }
         ensures ended { result ≡ Ok More.End → T.ended stream.new }
         ensures passes { OnOk result (Passes T.gave stream.old self.old stream.new self.new) }
+        ensures grows { OnOk result (GrowsBy self.old self.new call_limit) }
         ensures kept { T.faults stream.old ≤ T.faults stream.new }
         ensures heard { Hears T.gave stream.old stream.new }
         ensures fault { IsErrOf result Halt.Fault → Rose (T.faults stream.old) (T.faults stream.new) }
@@ -159,43 +161,6 @@ impl Intake {
             Ok(_) => Ok(More::Some),
             Err(halt) => Err(halt),
         }
-    }
-
-    /// Takes bytes until a line ended, their number doubled, or there are `limit` of them.
-    #[tactic(auto, using(crate::proofs::Passing::hears_then, crate::proofs::Passing::hears_same))]
-    pub fn take_lines<K, T: Stream<K>>(
-        &mut self,
-        stream: &mut T,
-        limit: usize,
-    ) -> Result<More, Halt>
-        ensures some { result ≡ Ok More.Some → length self.old < length self.new }
-        ensures same { result ≡ Ok More.End → self.new ≡ self.old }
-        ensures ended { result ≡ Ok More.End → T.ended stream.new }
-        ensures passes { OnOk result (Passes T.gave stream.old self.old stream.new self.new) }
-        ensures kept { T.faults stream.old ≤ T.faults stream.new }
-        ensures heard { Hears T.gave stream.old stream.new }
-        ensures fault { IsErrOf result Halt.Fault → Rose (T.faults stream.old) (T.faults stream.new) }
-        ensures kinds { IfErr result IsOutside }
-    {
-        let before = self.len();
-        match self.take_more(stream) {
-            Ok(More::Some) => {}
-            Ok(More::End) => return Ok(More::End),
-            Err(halt) => return Err(halt),
-        }
-        let mut seen = before;
-        'lines: while self.len() < limit
-            && self.len() - before < before
-            && !self.as_slice()[seen..].contains(&b'\n')
-        {
-            seen = self.len();
-            match self.take_more(stream) {
-                Ok(More::Some) => {}
-                Ok(More::End) => return Ok(More::Some),
-                Err(halt) => return Err(halt),
-            }
-        }
-        Ok(More::Some)
     }
 
     /// Takes some bytes from the stream, at most `limit` of them, and adds them to the body and not to the bytes
@@ -210,6 +175,7 @@ impl Intake {
         requires { 0 < limit }
         ensures adds { IfOk result (Adds T.gave stream.old stream.new body.old.items body.new.items) }
         ensures within { IfOk result (λ n. n ≤ limit) }
+        ensures one_call { IfOk result (λ n. n ≤ call_limit) }
         ensures ended { IfOk result (λ n. n ≡ 0 → T.ended stream.new) }
         ensures same { self.new ≡ self.old }
         ensures kept { T.faults stream.old ≤ T.faults stream.new }

@@ -1,6 +1,7 @@
-ghost use Rattle.std.specs.Prelude.{◌≡◌, ℕ, ◌≤◌, List, Some, Err, IsErrOf};
+ghost use Rattle.std.specs.Prelude.{◌≡◌, ℕ, ◌≤◌, List, [], Some, Err, IsErrOf};
 ghost use Rattle.uss_cause.specs.Cause.{Rose};
-ghost use Rattle.uss_http_base.specs.Requests.{AnswersStream, IsAnswerOf};
+ghost use Rattle.uss_http_base.specs.Requests.{AnswersStream, IsAnswerOf, IsRefused};
+ghost use Rattle.uss_http_base.specs.Prompt.{IsPrompt, ButForFaults};
 ghost use Rattle.uss_http_base.specs.Streams.{Hears};
 
 use crate::body::take_body;
@@ -29,6 +30,7 @@ pub struct Request {
 #[tactic(auto, using(crate::proofs::Passing::hears_then, crate::proofs::Passing::hears_same))]
 pub fn take_request<K, T: Stream<K>>(alloc: Global, stream: &mut T) -> Result<Request, ReadRefusal>
     ensures answer { AnswersStream T.gave T.ended stream.old stream.new result }
+    ensures prompt { ButForFaults result (IsPrompt T.gave stream.old [] stream.new (λ seen. IsRefused seen ReadRefusal.Truncated)) }
     ensures kept { T.faults stream.old ≤ T.faults stream.new }
     ensures heard { Hears T.gave stream.old stream.new }
     ensures fault { result ≡ Err ReadRefusal.Fault → Rose (T.faults stream.old) (T.faults stream.new) }

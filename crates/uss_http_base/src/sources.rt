@@ -1,6 +1,7 @@
 ghost use Rattle.std.specs.Prelude.{◌≡◌, ℕ, ◌≤◌, List, Some, Err};
 ghost use Rattle.uss_cause.specs.Cause.{Rose};
-ghost use Rattle.uss_http_base.specs.Requests.{IsAnswerOf};
+ghost use Rattle.uss_http_base.specs.Prompt.{ButForFaults};
+ghost use Rattle.uss_http_base.specs.Requests.{IsAnswerOf, ReadsPromptly};
 ghost use Rattle.uss_http_base.specs.Sources.{GaveFrom, HasEnded, gave_nothing};
 
 use crate::refusal::ReadRefusal;
@@ -31,9 +32,11 @@ impl<S: Source> Stream<FromSource> for S {
 }
 
 /// Reads one request from a source. The answer is that of the bytes that the source has left, whatever pieces they come
-/// in, if it tells them: the request at their front, or why there is none.
+/// in, if it tells them: the request at their front, or why there is none. Bytes are taken only while those before are no
+/// whole message and may become one, and fewer than 24 KiB behind them.
 pub fn request_from<S: Source>(alloc: Global, input: &mut S) -> Result<Request, ReadRefusal>
     ensures exact { (bytes : List ℕ) → S.left input.old ≡ Some bytes → IsAnswerOf bytes result }
+    ensures prompt { (bytes : List ℕ) → S.left input.old ≡ Some bytes → ButForFaults result (ReadsPromptly bytes (S.left input.new)) }
     ensures kept { S.faults input.old ≤ S.faults input.new }
     ensures fault { result ≡ Err ReadRefusal.Fault → Rose (S.faults input.old) (S.faults input.new) }
 {

@@ -1,14 +1,16 @@
-ghost use Rattle.std.specs.Prelude.{◌≡◌, ℕ, ◌≤◌, List, length, drop, Err, IfOk, IfErr, OnOk};
+ghost use Rattle.std.specs.Prelude.{◌≡◌, ℕ, ◌<◌, ◌≤◌, List, length, drop, Err, IfOk, IfErr, OnOk};
 ghost use Rattle.httparse.specs.Grammar.{LineEnd, Field, print_section, ReadsSection, NeverHasSection};
 ghost use Rattle.uss_cause.specs.Cause.{Rose};
 ghost use Rattle.uss_http_base.specs.BodyAnswers.{TakesTrailers, MissesTrailers};
 ghost use Rattle.uss_http_base.specs.Chunks.{AreOpenTrailers};
 ghost use Rattle.uss_http_base.specs.Pieces.{MatchLook, piece_limit};
-ghost use Rattle.uss_http_base.specs.Streams.{Hears};
+ghost use Rattle.uss_http_base.specs.Prompt.{IsPrompt};
+ghost use Rattle.uss_http_base.specs.Streams.{Hears, UnlessOutside};
 
 use crate::halt::Halt;
 use crate::heads::{ROOM, places};
 use crate::intake::Intake;
+use crate::line_ends::fields_may_end;
 use crate::piece::{Look, Piece, take_piece};
 use crate::stream::Stream;
 use httparse::Status;
@@ -47,12 +49,16 @@ impl Piece for Trailers {
 
     ghost found = { λ _ bytes len. (fields : List Field) × (end : LineEnd) × ReadsSection bytes fields end (drop len bytes) };
 
-    ghost unfinished = { λ _ bytes. AreOpenTrailers bytes };
+    ghost unfinished = { λ bytes. AreOpenTrailers bytes };
 
     ghost never = { λ _ bytes. NeverHasSection bytes };
 
     fn look(&mut self, bytes: &[u8]) -> Look<usize> {
         look_for_trailers(bytes, self.headers.as_mut_slice())
+    }
+
+    fn may_end(&self, bytes: &[u8], from: usize) -> bool {
+        fields_may_end(bytes, from)
     }
 }
 
@@ -78,6 +84,7 @@ pub fn take_trailers<K, T: Stream<K>>(
 ) -> Result<(), Halt>
     ensures taken { OnOk result (TakesTrailers T.gave stream.old intake.old stream.new) }
     ensures refused { IfErr result (MissesTrailers T.gave T.ended stream.old intake.old stream.new) }
+    ensures prompt { UnlessOutside result (IsPrompt T.gave stream.old intake.old stream.new (λ seen. (length seen < piece_limit) × AreOpenTrailers seen)) }
     ensures kept { T.faults stream.old ≤ T.faults stream.new }
     ensures heard { Hears T.gave stream.old stream.new }
     ensures fault { result ≡ Err Halt.Fault → Rose (T.faults stream.old) (T.faults stream.new) }

@@ -1,3 +1,4 @@
 pub mod Room
 pub mod HeadSteps
 pub mod ResponseSteps
+pub mod PromptSteps

@@ -108,7 +108,7 @@ too_much : {S : Type 0} (gave : S → S → List ℕ → Type 0) (ended : S → 
 too_much gave ended s t kept shows = record { all = shows.all; passes = shows.passes; refused = λ more none. omega (arith, shows.over, length-append shows.all more) }
 
 -- the head before other bytes
-with_rest : (all rest other : List ℕ) (head : StatusHead) (has : HasHead all head rest) → HasHead (print_response has.tree ++ other) head other
+pub with_rest : (all rest other : List ℕ) (head : StatusHead) (has : HasHead all head rest) → HasHead (print_response has.tree ++ other) head other
 with_rest all rest other head has = record { tree = has.tree; begins = record { valid = has.begins.valid; spelled = refl; within = has.begins.within }; says = has.says }
 
 with_more : (all rest other more : List ℕ) (head : StatusHead) (has : HasHead all head rest) → HasHead ((print_response has.tree ++ other) ++ more) head (other ++ more)

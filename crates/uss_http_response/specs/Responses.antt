@@ -44,6 +44,22 @@ pub record HasRefusedBody (bytes : List ℕ) (e : ReadRefusal) : Type 0 where
   pub has_head : HasHead bytes head rest
   pub refused : IsRefusedBodyAt head.body rest e
 
+-- bytes behind the head that leave the body open: those cut short, and within the limit any, where the body ends with the stream
+abbrev pub IsOpenBodyAt : BodyEnd → List ℕ → Type 0
+IsOpenBodyAt (Framed framing) bytes = IsRefusedBody framing bytes refusal.Truncated
+IsOpenBodyAt AtTheEnd bytes = length bytes ≤ body_limit
+
+-- the bytes begin with a head that is accepted, and what follows it leaves the body open
+pub record HasOpenBody (bytes : List ℕ) : Type 0 where
+  pub head : StatusHead
+  pub rest : List ℕ
+  pub has_head : HasHead bytes head rest
+  pub open_body : IsOpenBodyAt head.body rest
+
+-- bytes that leave the answer open, as long as the stream goes on
+abbrev pub IsOpen : List ℕ → Type 0
+IsOpen bytes = IsRefusedHead bytes refusal.Truncated ⊎ HasOpenBody bytes
+
 -- why the bytes begin with no response; the head is judged first, and then the body
 abbrev pub IsRefused : List ℕ → ReadRefusal → Type 0
 IsRefused bytes e = IsRefusedHead bytes e ⊎ HasRefusedBody bytes e

@@ -4,8 +4,9 @@ ghost use Rattle.httparse.specs.Spans.{IsResponseOf, IsResponseWithin, IsHeaderW
 ghost use Rattle.uss_cause.specs.Cause.{Rose};
 ghost use Rattle.uss_http_base.specs.Fields.{framing_of};
 ghost use Rattle.uss_http_base.specs.Pieces.{MatchLook, piece_limit};
+ghost use Rattle.uss_http_base.specs.Prompt.{IsPrompt, ButForFaults};
 ghost use Rattle.uss_http_base.specs.Streams.{Hears};
-ghost use Rattle.uss_http_response.specs.Heads.{IsOpenHead, end_by};
+ghost use Rattle.uss_http_response.specs.Heads.{IsOpenHead, IsRefusedHead, end_by};
 ghost use Rattle.uss_http_response.specs.Answers.{IsHeadAt, TakesHead, MissesHead};
 
 use httparse::Status;
@@ -13,8 +14,8 @@ use httparse::spans::{HeaderSpan, ResponseSpans, parse_response};
 use std::alloc::{AllocError, Global};
 use std::marker::Model;
 use uss_http_base::{
-    Framing, Intake, Look, Piece, ROOM, ReadRefusal, Stream, body_framing, head_refusal, places,
-    take_piece,
+    Framing, Intake, Look, Piece, ROOM, ReadRefusal, Stream, body_framing, fields_may_end,
+    head_refusal, places, take_piece,
 };
 
 /// Heads of responses, with the places of the fields of the last one that was found.
@@ -56,12 +57,16 @@ impl Piece for ResponseHeads {
 
     ghost found = { λ heads bytes spans. IsResponseOf bytes heads spans × IsResponseWithin bytes heads spans };
 
-    ghost unfinished = { λ _ bytes. IsOpenHead bytes };
+    ghost unfinished = { λ bytes. IsOpenHead bytes };
 
     ghost never = { λ _ bytes. NeverHasResponse bytes };
 
     fn look(&mut self, bytes: &[u8]) -> Look<ResponseSpans> {
         look_for_head(bytes, self.headers.as_mut_slice())
+    }
+
+    fn may_end(&self, bytes: &[u8], from: usize) -> bool {
+        fields_may_end(bytes, from)
     }
 }
 
@@ -135,6 +140,7 @@ pub fn take_status_head<K, T: Stream<K>>(
 ) -> Result<StatusHead, ReadRefusal>
     ensures taken { IfOk result (TakesHead T.gave stream.old intake.old stream.new intake.new) }
     ensures refused { IfErr result (MissesHead T.gave T.ended stream.old intake.old stream.new) }
+    ensures prompt { ButForFaults result (IsPrompt T.gave stream.old intake.old stream.new (λ seen. IsRefusedHead seen ReadRefusal.Truncated)) }
     ensures kept { T.faults stream.old ≤ T.faults stream.new }
     ensures heard { Hears T.gave stream.old stream.new }
     ensures fault { result ≡ Err ReadRefusal.Fault → Rose (T.faults stream.old) (T.faults stream.new) }

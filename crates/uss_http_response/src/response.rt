@@ -1,6 +1,8 @@
-ghost use Rattle.std.specs.Prelude.{◌≡◌, ◌≤◌, Err, IfOk, IfErr};
+ghost use Rattle.std.specs.Prelude.{◌≡◌, ◌≤◌, [], Err, IfOk, IfErr};
 ghost use Rattle.uss_cause.specs.Cause.{Rose};
+ghost use Rattle.uss_http_base.specs.Prompt.{IsPrompt, ButForFaults};
 ghost use Rattle.uss_http_base.specs.Streams.{Hears};
+ghost use Rattle.uss_http_response.specs.Responses.{IsOpen, IsOpenBodyAt};
 ghost use Rattle.uss_http_response.specs.Answers.{ShowsAnswer, TakesBodyAt, MissesBodyAt};
 
 use crate::heads::{BodyEnd, ResponseHeads, take_status_head};
@@ -26,6 +28,7 @@ fn take_body_at<K, T: Stream<K>>(
 ) -> Result<Vec<u8>, ReadRefusal>
     ensures taken { IfOk result (λ body. TakesBodyAt T.gave T.ended stream.old intake.old stream.new end body.items) }
     ensures refused { IfErr result (MissesBodyAt T.gave T.ended stream.old intake.old stream.new end) }
+    ensures prompt { ButForFaults result (IsPrompt T.gave stream.old intake.old stream.new (IsOpenBodyAt end)) }
     ensures kept { T.faults stream.old ≤ T.faults stream.new }
     ensures heard { Hears T.gave stream.old stream.new }
     ensures fault { result ≡ Err ReadRefusal.Fault → Rose (T.faults stream.old) (T.faults stream.new) }
@@ -44,6 +47,7 @@ pub fn take_response<K, T: Stream<K>>(
     stream: &mut T,
 ) -> Result<Response, ReadRefusal>
     ensures answer { ShowsAnswer T.gave T.ended stream.old stream.new result }
+    ensures prompt { ButForFaults result (IsPrompt T.gave stream.old [] stream.new IsOpen) }
     ensures kept { T.faults stream.old ≤ T.faults stream.new }
     ensures fault { result ≡ Err ReadRefusal.Fault → Rose (T.faults stream.old) (T.faults stream.new) }
 {

@@ -1,5 +1,7 @@
-ghost use Rattle.std.specs.Prelude.{◌≡◌, ◌≤◌, Err, IfOk, IfErr};
+ghost use Rattle.std.specs.Prelude.{◌≡◌, ◌≤◌, length, Err, IfOk, IfErr};
 ghost use Rattle.uss_cause.specs.Cause.{Rose};
+ghost use Rattle.uss_http_base.specs.Fields.{body_limit};
+ghost use Rattle.uss_http_base.specs.Prompt.{IsPrompt, ButForFaults};
 ghost use Rattle.uss_http_base.specs.Streams.{Hears};
 ghost use Rattle.uss_http_response.specs.Answers.{TakesRest, MissesRest};
 
@@ -7,7 +9,7 @@ use std::alloc::{AllocError, Global};
 use uss_http_base::{BODY_LIMIT, Intake, PIECE_LIMIT, ReadRefusal, Stream, piece_refusal};
 
 /// Takes all the bytes up to the end of the stream: those not yet used, and then the next ones.
-#[tactic(auto, using(uss_http_base::proofs::Passing::hears_then, uss_http_base::proofs::Passing::hears_same))]
+#[tactic(auto, using(uss_http_base::proofs::Passing::hears_then, uss_http_base::proofs::Passing::hears_same, uss_http_base::proofs::Prompting::prompt_same))]
 pub fn take_rest<K, T: Stream<K>>(
     alloc: Global,
     stream: &mut T,
@@ -15,6 +17,7 @@ pub fn take_rest<K, T: Stream<K>>(
 ) -> Result<Vec<u8>, ReadRefusal>
     ensures taken { IfOk result (λ body. TakesRest T.gave T.ended stream.old intake.old stream.new body.items) }
     ensures refused { IfErr result (MissesRest T.gave stream.old intake.old stream.new) }
+    ensures prompt { ButForFaults result (IsPrompt T.gave stream.old intake.old stream.new (λ seen. length seen ≤ body_limit)) }
     ensures kept { T.faults stream.old ≤ T.faults stream.new }
     ensures heard { Hears T.gave stream.old stream.new }
     ensures fault { result ≡ Err ReadRefusal.Fault → Rose (T.faults stream.old) (T.faults stream.new) }

@@ -1,6 +1,8 @@
 use Rattle.std.proofs.Common.{refl, arith}
 use Rattle.uss_http_base.proofs.Passing.{hears_then}
 use Rattle.uss_http_base.proofs.BodySteps.{chunks_more, chunks_end, chunk_missing}
+use Rattle.uss_http_base.proofs.BodySteps.{chunks_prompt}
+use Rattle.uss_http_base.proofs.Prompting.{refused_map}
 use Rattle.uss_http_base.proofs.body.take_chunks.Goals as goal
 
 pub chunks-preserved : goal.chunks-preserved
@@ -9,6 +11,7 @@ chunks-preserved g c =
     record {
       within = one.within;
       taken = chunks_more g.T.Stream.gave c.args.stream.now c.chunks.stream c.take_chunk.new.stream c.args.intake.now c.chunks.intake c.take_chunk.new.intake c.chunks.body.items c.take_chunk.new.body.items c.chunks.invariant.taken one;
+      prompt = chunks_prompt g.T.Stream.gave c.args.stream.now c.chunks.stream c.take_chunk.new.stream c.args.intake.now c.chunks.intake c.chunks.body.items c.chunks.invariant.taken c.chunks.invariant.prompt c.in-Ok-Chunk.ensures.prompt;
       heard = hears_then c.chunks.invariant.heard c.take_chunk.ensures.heard;
       kept = omega (arith, c.chunks.invariant.kept, c.take_chunk.ensures.kept);
     }
@@ -18,3 +21,9 @@ returns-in-Ok-Last-clause-taken g c = chunks_end g.T.Stream.gave c.args.stream.n
 
 pub returns-in-Err-clause-refused : goal.returns-in-Err-clause-refused
 returns-in-Err-clause-refused g c = chunk_missing g.T.Stream.gave g.T.Stream.ended c.args.stream.now c.chunks.stream c.take_chunk.new.stream c.args.intake.now c.chunks.intake c.chunks.body.items c.in-Err.refusal c.chunks.invariant.taken c.in-Err.ensures.refused
+
+pub returns-in-Ok-Last-clause-prompt : goal.returns-in-Ok-Last-clause-prompt
+returns-in-Ok-Last-clause-prompt g c = chunks_prompt g.T.Stream.gave c.args.stream.now c.chunks.stream c.take_chunk.new.stream c.args.intake.now c.chunks.intake c.chunks.body.items c.chunks.invariant.taken c.chunks.invariant.prompt c.in-Ok-Last.ensures.prompt
+
+pub returns-in-Err-clause-prompt : goal.returns-in-Err-clause-prompt
+returns-in-Err-clause-prompt g c = refused_map c.in-Err.refusal _ _ (λ p. chunks_prompt g.T.Stream.gave c.args.stream.now c.chunks.stream c.take_chunk.new.stream c.args.intake.now c.chunks.intake c.chunks.body.items c.chunks.invariant.taken c.chunks.invariant.prompt p) c.in-Err.ensures.prompt

@@ -1,6 +1,8 @@
 use Rattle.std.proofs.Common.{◌≤◌, ◌-◌, length}
 use Rattle.uss_http_base.specs.Fields.{body_limit}
+use Rattle.uss_http_base.specs.Chunks.{IsCutOff, StopsWhere}
 use Rattle.uss_http_base.specs.ChunkAnswers.{TakesChunks}
+use Rattle.uss_http_base.specs.Prompt.{IsPrompt}
 use Rattle.uss_http_base.specs.Streams.{Hears}
 use Rattle.uss_http_base.proofs.body.take_chunks.Given as goal
 
@@ -8,6 +10,7 @@ abbrev pub invariant-chunks : goal.invariant-chunks
 invariant-chunks g l = record {
   within : length l.body.items ≤ body_limit;
   taken : TakesChunks g.T.Stream.gave l.fn.stream l.fn.intake l.stream l.intake l.body.items;
+  prompt : IsPrompt g.T.Stream.gave l.fn.stream l.fn.intake l.stream (StopsWhere IsCutOff);
   heard : Hears g.T.Stream.gave l.fn.stream l.stream;
   kept : g.T.Stream.faults l.fn.stream ≤ g.T.Stream.faults l.stream;
 }

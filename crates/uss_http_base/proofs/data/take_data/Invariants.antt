@@ -1,4 +1,5 @@
-use Rattle.std.proofs.Common.{◌≡◌, ◌≤◌, ◌<◌, ◌-◌, []}
+use Rattle.std.proofs.Common.{◌≡◌, ◌≤◌, ◌<◌, ◌-◌, [], length}
+use Rattle.uss_http_base.specs.Prompt.{IsPrompt}
 use Rattle.uss_http_base.specs.Streams.{Hears, Moves}
 use Rattle.uss_http_base.proofs.data.take_data.Given as goal
 
@@ -7,6 +8,7 @@ invariant-moving g l = record {
   some_left : l.missing ≤ l.count;
   moves : Moves g.T.Stream.gave l.fn.stream l.fn.intake l.stream l.intake l.fn.body.items l.body.items (l.count - l.missing);
   empty : 0 < l.missing → l.intake ≡ [];
+  prompt : IsPrompt g.T.Stream.gave l.fn.stream l.fn.intake l.stream (λ seen. length seen < l.count);
   heard : Hears g.T.Stream.gave l.fn.stream l.stream;
   kept : g.T.Stream.faults l.fn.stream ≤ g.T.Stream.faults l.stream;
 }

@@ -1,6 +1,7 @@
 use Rattle.std.proofs.Common.{drop, take}
 use Rattle.uss_http_base.specs.Pieces.{piece_limit}
 use Rattle.uss_http_base.proofs.BodySteps.{trailers_taken, halted_trailers}
+use Rattle.uss_http_base.proofs.Prompting.{outside_again}
 use Rattle.uss_http_base.proofs.trailers.take_trailers.Goals as goal
 
 pub returns-in-Ok-clause-taken : goal.returns-in-Ok-clause-taken
@@ -12,3 +13,6 @@ pub returns-in-Err-clause-refused : goal.returns-in-Err-clause-refused
 returns-in-Err-clause-refused g c =
     let e = c.in-Err.ensures in
     halted_trailers g.T.Stream.gave g.T.Stream.ended c.args.stream.now c.args.intake.now c.take_piece.new.stream c.take_piece.new.intake c.in-Err.halt e.passes e.bad e.long e.cut
+
+pub returns-in-Err-clause-prompt : goal.returns-in-Err-clause-prompt
+returns-in-Err-clause-prompt g c = outside_again (Unit {0}) c.take_piece.result c.in-Err.halt _ c.in-Err.is c.take_piece.ensures.prompt

@@ -3,6 +3,7 @@ use Rattle.std.specs.Prelude.{List, ℕ}
 use Rattle.uss_http_base.specs.Pieces.{piece_limit}
 use Rattle.uss_http_response.specs.Heads.{BeginsWith}
 use Rattle.uss_http_response.proofs.HeadSteps.{halted_head, begins_at, says_at, refused_head}
+use Rattle.uss_http_base.proofs.Prompting.{head_halted, unless_fault}
 use Rattle.uss_http_response.proofs.heads.take_status_head.Goals as goal
 
 pub returns-in-Err-clause-refused : goal.returns-in-Err-clause-refused
@@ -32,3 +33,9 @@ returns-clause-taken g c =
         says = says_at all c.front.result.now _ c.headers.result.now c.in-Ok.spans found.0 (Ok c.in-Ok-head_at.head) c.front.ensures.value c.headers.ensures found.1 c.in-Ok-head_at.ensures;
       };
     }
+
+pub returns-in-Err-clause-prompt : goal.returns-in-Err-clause-prompt
+returns-in-Err-clause-prompt g c = rw c.head_refusal.ensures (head_halted c.take_piece.result c.in-Err.halt _ c.in-Err.is c.take_piece.ensures.prompt)
+
+pub returns-in-Err-head_at-clause-prompt : goal.returns-in-Err-head_at-clause-prompt
+returns-in-Err-head_at-clause-prompt g c = unless_fault c.in-Err-head_at.refusal _ c.in-Ok.ensures.prompt

@@ -1,6 +1,8 @@
 use Rattle.std.proofs.Common.{refl}
 use Rattle.uss_http_base.proofs.Passing.{hears_same, hears_then}
 use Rattle.uss_http_response.proofs.ResponseSteps.{wanted, head_missing, body_missing, response_taken}
+use Rattle.uss_http_response.proofs.PromptSteps.{head_prompt, body_prompt}
+use Rattle.uss_http_base.proofs.Prompting.{refused_map}
 use Rattle.uss_http_response.proofs.response.take_response.Goals as goal
 
 pub returns-in-Err-clause-answer : goal.returns-in-Err-clause-answer
@@ -17,3 +19,12 @@ returns-in-Err-take_body_at-clause-answer g c = body_missing g.T.Stream.gave g.T
 
 pub returns-clause-answer : goal.returns-clause-answer
 returns-clause-answer g c = response_taken g.T.Stream.gave g.T.Stream.ended c.args.stream.now c.take_status_head.new.stream c.take_body_at.new.stream c.in-Ok.intake c.take_status_head.new.intake c.in-Ok-take_body_at.body.items c.in-Ok-take_status_head.head _ (g.met.T.Stream.nothing c.args.stream.now) c.in-Ok.ensures c.in-Ok-take_status_head.ensures.taken c.in-Ok-take_body_at.ensures.taken refl c.from_vec.ensures
+
+pub returns-in-Err-take_status_head-clause-prompt : goal.returns-in-Err-take_status_head-clause-prompt
+returns-in-Err-take_status_head-clause-prompt g c = refused_map c.in-Err-take_status_head.refusal _ _ (λ p. head_prompt g.T.Stream.gave c.args.stream.now c.take_status_head.new.stream c.in-Ok.intake c.in-Ok.ensures p) c.in-Err-take_status_head.ensures.prompt
+
+pub returns-in-Err-take_body_at-clause-prompt : goal.returns-in-Err-take_body_at-clause-prompt
+returns-in-Err-take_body_at-clause-prompt g c = refused_map c.in-Err-take_body_at.refusal _ _ (λ p. body_prompt g.T.Stream.gave c.args.stream.now c.take_status_head.new.stream c.take_body_at.new.stream c.in-Ok.intake c.take_status_head.new.intake c.in-Ok-take_status_head.head c.in-Ok.ensures c.in-Ok-take_status_head.ensures.taken c.in-Ok-take_status_head.ensures.prompt p) c.in-Err-take_body_at.ensures.prompt
+
+pub returns-clause-prompt : goal.returns-clause-prompt
+returns-clause-prompt g c = body_prompt g.T.Stream.gave c.args.stream.now c.take_status_head.new.stream c.take_body_at.new.stream c.in-Ok.intake c.take_status_head.new.intake c.in-Ok-take_status_head.head c.in-Ok.ensures c.in-Ok-take_status_head.ensures.taken c.in-Ok-take_status_head.ensures.prompt c.in-Ok-take_body_at.ensures.prompt

@@ -1,10 +1,13 @@
 use Rattle.std.proofs.Common.{◌≤◌, ◌-◌, length}
+use Rattle.uss_http_base.specs.Fields.{body_limit}
+use Rattle.uss_http_base.specs.Prompt.{IsPrompt}
 use Rattle.uss_http_base.specs.Streams.{Hears, Passes}
 use Rattle.uss_http_response.proofs.rest.take_rest.Given as goal
 
 abbrev pub invariant-taking : goal.invariant-taking
 invariant-taking g l = record {
   passes : Passes g.T.Stream.gave l.fn.stream l.fn.intake l.stream l.body.items;
+  prompt : IsPrompt g.T.Stream.gave l.fn.stream l.fn.intake l.stream (λ seen. length seen ≤ body_limit);
   heard : Hears g.T.Stream.gave l.fn.stream l.stream;
   kept : g.T.Stream.faults l.fn.stream ≤ g.T.Stream.faults l.stream;
 }
