@@ -14,7 +14,10 @@ mod rows;
 mod tests;
 
 pub use found::Route;
-pub use laws::{ovns_are_read_again, paths_are_texts_and_parameters};
+pub use laws::{
+    only_served_paths, ovns_are_read_again, paths_are_texts_and_parameters, refused_targets,
+    tags_are_dropped, written_paths_are_routed,
+};
 pub use ovns::{ovn_of_segment, segment_of_ovn};
 pub use routes::route;
 pub use rows::RouteRow;
