@@ -9,7 +9,7 @@ use Rattle.std.proofs.lemmas.Bool.Decides.{nat_tests}
 use Rattle.std.proofs.lemmas.Slice.Eq.{bytes_eq-Decides}
 use Rattle.uss_route.specs.declared.rows.RouteRow.{RouteRow}
 use Rattle.uss_route.specs.declared.rows.RouteRow.TheVariants as row
-use Rattle.uss_route.specs.Rows.{method_of, text_of, count_of, all_rows}
+use Rattle.uss_route.specs.Rows.{method_of, text_of, count_of, is_of_a_supplier, all_rows}
 use Rattle.uss_route.specs.Spelling.{IsParameter, parameters_text, IsPathOf}
 use Rattle.uss_route.proofs.Spelled.{NoSlash, begins}
 
@@ -110,14 +110,17 @@ abbrev slashes : List ℕ → ℕ
 slashes [] = 0
 slashes (b ∷ bytes) = cond (b == 47) (1 + slashes bytes) (slashes bytes)
 
--- two rows of one method whose texts and slashes may be those of one path
-abbrev clash : RouteRow → RouteRow → Bool
-clash r q =
-    bytes_eq (method_of r) (method_of q)
-    && (bytes_eq (take (length (text_of q)) (text_of r)) (take (length (text_of r)) (text_of q)) && (slashes (text_of r) + count_of r == slashes (text_of q) + count_of q))
+-- two rows whose texts and slashes may be those of one path
+abbrev meet : RouteRow → RouteRow → Bool
+meet r q =
+    bytes_eq (take (length (text_of q)) (text_of r)) (take (length (text_of r)) (text_of q)) && (slashes (text_of r) + count_of r == slashes (text_of q) + count_of q)
+
+-- of the same method, or both of a supplier
+abbrev alike : RouteRow → RouteRow → Bool
+alike r q = bytes_eq (method_of r) (method_of q) || (is_of_a_supplier r && is_of_a_supplier q)
 
 abbrev same_or_apart : RouteRow → RouteRow → Bool
-same_or_apart r q = not (clash r q) || (rank r == rank q)
+same_or_apart r q = not (alike r q && meet r q) || (rank r == rank q)
 
 apart : (r : RouteRow) → list_all (same_or_apart r) all_rows ≡ true
 apart row.DssQuery = refl
@@ -166,8 +169,8 @@ same_by : (r q : RouteRow) (t : Bool) → t ≡ true → (not t || (rank r == ra
 same_by r q true is e = sym (at_rank r) ∙ ap (λ (n : ℕ). get_or all_rows n row.DssQuery) (same_rank (rank r) (rank q) e) ∙ at_rank q
 same_by r q false is e = absurd (cc)
 
-one_of_clash : (r q : RouteRow) → clash r q ≡ true → r ≡ q
-one_of_clash r q is = same_by r q (clash r q) is (passes_all (same_or_apart r) q (apart r))
+one_of_meet : (r q : RouteRow) → alike r q ≡ true → meet r q ≡ true → r ≡ q
+one_of_meet r q like is = same_by r q (alike r q && meet r q) (and_from (alike r q) (meet r q) like is) (passes_all (same_or_apart r) q (apart r))
 
 -- ---- a path has one row of a method
 
@@ -208,12 +211,25 @@ fronts (d ∷ a) x (c ∷ b) y e =
 same_number : (n m : ℕ) → n ≡ m → (n == m) ≡ true
 same_number n m e = grind (arith, nat_tests)
 
-pub one_row : (r q : RouteRow) (ps qs : List (List ℕ)) (path : List ℕ) → IsPathOf r ps path → IsPathOf q qs path → method_of r ≡ method_of q → r ≡ q
-one_row r q ps qs path is other same =
+meeting : (r q : RouteRow) (ps qs : List (List ℕ)) (path : List ℕ) → IsPathOf r ps path → IsPathOf q qs path → meet r q ≡ true
+meeting r q ps qs path is other =
     let front = fronts (text_of r) (parameters_text ps) (text_of q) (parameters_text qs) (sym is.spelled ∙ other.spelled) in
     let count = sym (slashes_path r ps path is) ∙ slashes_path q qs path other in
-    one_of_clash r q (
-    and_from (bytes_eq (method_of r) (method_of q)) _ ((bytes_eq-Decides (method_of r) (method_of q)).1 same) (
     and_from (bytes_eq (take (length (text_of q)) (text_of r)) (take (length (text_of r)) (text_of q))) _ ((bytes_eq-Decides (take (length (text_of q)) (text_of r)) (take (length (text_of r)) (text_of q))).1 front) (same_number (slashes (text_of r) + count_of r) (slashes (text_of q) + count_of q) count)
-    )
-    )
+
+pub or_left : (a b : Bool) → a ≡ true → (a || b) ≡ true
+or_left true b e = refl
+or_left false b e = absurd (cc)
+
+pub or_right : (a b : Bool) → b ≡ true → (a || b) ≡ true
+or_right true b e = refl
+or_right false b e = e
+
+pub one_row : (r q : RouteRow) (ps qs : List (List ℕ)) (path : List ℕ) → IsPathOf r ps path → IsPathOf q qs path → method_of r ≡ method_of q → r ≡ q
+one_row r q ps qs path is other same =
+    one_of_meet r q (or_left (bytes_eq (method_of r) (method_of q)) (is_of_a_supplier r && is_of_a_supplier q) ((bytes_eq-Decides (method_of r) (method_of q)).1 same)) (meeting r q ps qs path is other)
+
+-- a path has one row of a supplier
+pub one_of_suppliers : (r q : RouteRow) (ps qs : List (List ℕ)) (path : List ℕ) → IsPathOf r ps path → IsPathOf q qs path → is_of_a_supplier r ≡ true → is_of_a_supplier q ≡ true → r ≡ q
+one_of_suppliers r q ps qs path is other first second =
+    one_of_meet r q (or_right (bytes_eq (method_of r) (method_of q)) (is_of_a_supplier r && is_of_a_supplier q) (and_from (is_of_a_supplier r) (is_of_a_supplier q) first second)) (meeting r q ps qs path is other)

@@ -21,7 +21,7 @@ use Rattle.uss_route.specs.Spelling.{IsParameter, parameters_text, IsPathOf}
 use Rattle.uss_route.specs.Served.{HasNoQuery, IsBehindTag, IsServed, IsWrittenOut, IsMeant, AreRowsOf, route_with}
 use Rattle.uss_route.proofs.Looking.{both_left, both_right, found_passes, any_kept}
 use Rattle.uss_route.proofs.Spelled.{begins, segment_in_front, behind_front, some_length, some_from, parts, free, fits_spelled, spelled_fits, parameters_are}
-use Rattle.uss_route.proofs.Meaning.{rank, row_begins, no_tag, in_table, any_from, any_gives, same_rank, one_row}
+use Rattle.uss_route.proofs.Meaning.{rank, row_begins, no_tag, in_table, any_from, any_gives, same_rank, or_left, or_right, one_row, one_of_suppliers}
 
 -- ---- with a tag and without
 
@@ -58,14 +58,6 @@ untagged_here tag rest is begin =
 
 path_begins : (r : RouteRow) (ps : List (List ℕ)) (path : List ℕ) → IsPathOf r ps path → begins path
 path_begins r ps path is = subst begins (sym is.spelled) (row_begins r (parameters_text ps))
-
-or_right : (a b : Bool) → b ≡ true → (a || b) ≡ true
-or_right true b e = refl
-or_right false b e = e
-
-or_left : (a b : Bool) → a ≡ true → (a || b) ≡ true
-or_left true b e = refl
-or_left false b e = absurd (cc)
 
 placed_tagged : (r : RouteRow) (ps : List (List ℕ)) (path : List ℕ) → (b : IsBehindTag r ps path) → IsPlaced r ps path
 placed_tagged r ps path b =
@@ -340,9 +332,20 @@ meant_routed r ps path is first text all =
     ∙ route_text (method_of r) path true text
     ∙ route_on_meant path r ps (record { served = is; first = first })
 
-pub tagged_routed : (r : RouteRow) (ps : List (List ℕ)) (tag path : List ℕ) → is_of_a_supplier r ≡ true → IsParameter tag → IsPathOf r ps path → (IsWrittenOut (codes "/a/" ++ (tag ++ path)) → ps ≡ []) → is_utf8 (codes "/a/" ++ (tag ++ path)) ≡ true → HasNoQuery (codes "/a/" ++ (tag ++ path)) → route_of (method_of r) (codes "/a/" ++ (tag ++ path)) ≡ Ok (route_with r ps)
-tagged_routed r ps tag path supplier is rested first text all =
-    meant_routed r ps (codes "/a/" ++ (tag ++ path)) (inr (record { supplier = supplier; tag = tag; tagged = is; rest = path; rested = rested; spelled = refl })) first text all
+-- behind a tag no path of a row with parameters is written out for another
+tagged_first : (r : RouteRow) (ps : List (List ℕ)) (tag path : List ℕ) → is_of_a_supplier r ≡ true → IsParameter tag → IsPathOf r ps path → IsWrittenOut (codes "/a/" ++ (tag ++ path)) → ps ≡ []
+tagged_first r ps tag path supplier is rested w =
+    let whole = codes "/a/" ++ (tag ++ path) in
+    let begin = path_begins r ps path rested in
+    let other = placed w.0 [] whole w.1 in
+    let there : IsPathOf w.0 [] path = subst (IsPathOf w.0 []) (untagged_here tag path is begin) other.place in
+    let second = supplier_by (is_of_a_supplier w.0) (is_tagged whole) (is_tagged_here tag path is begin) other.may in
+    let same = one_of_suppliers r w.0 ps [] path rested there supplier second in
+    no_items ps (rested.count ∙ ap count_of same ∙ sym there.count)
+
+pub tagged_routed : (r : RouteRow) (ps : List (List ℕ)) (tag path : List ℕ) → is_of_a_supplier r ≡ true → IsParameter tag → IsPathOf r ps path → is_utf8 (codes "/a/" ++ (tag ++ path)) ≡ true → HasNoQuery (codes "/a/" ++ (tag ++ path)) → route_of (method_of r) (codes "/a/" ++ (tag ++ path)) ≡ Ok (route_with r ps)
+tagged_routed r ps tag path supplier is rested text all =
+    meant_routed r ps (codes "/a/" ++ (tag ++ path)) (inr (record { supplier = supplier; tag = tag; tagged = is; rest = path; rested = rested; spelled = refl })) (tagged_first r ps tag path supplier is rested) text all
 
 -- what a route tells
 record Found (method path : List ℕ) (route : Route) : Type 0 where

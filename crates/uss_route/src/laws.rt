@@ -35,9 +35,10 @@ pub fn written_paths_are_routed()
     ensures query { (method path query : List ℕ) → HasNoQuery path → route_of method (path ++ 63 ∷ query) ≡ route_of method path }
 {}
 
-/// The same behind `/a/` and a tag, for the events of a supplier. The function does nothing: its contract carries the law.
+/// The tag is dropped: what is written as `/a/`, a tag and a path of an event of a supplier is routed to that row, with the
+/// parameters that were written. A tag isn't empty and has no slash. The function does nothing: its contract carries the law.
 pub fn tags_are_dropped()
-    ensures { (row : RouteRow) (parameters : List (List ℕ)) (tag path : List ℕ) → is_of_a_supplier row ≡ true → IsParameter tag → IsPathOf row parameters path → (IsWrittenOut (codes "/a/" ++ (tag ++ path)) → parameters ≡ []) → is_utf8 (codes "/a/" ++ (tag ++ path)) ≡ true → HasNoQuery (codes "/a/" ++ (tag ++ path)) → route_of (method_of row) (codes "/a/" ++ (tag ++ path)) ≡ Ok (route_with row parameters) }
+    ensures { (row : RouteRow) (parameters : List (List ℕ)) (tag path : List ℕ) → is_of_a_supplier row ≡ true → IsParameter tag → IsPathOf row parameters path → is_utf8 (codes "/a/" ++ (tag ++ path)) ≡ true → HasNoQuery (codes "/a/" ++ (tag ++ path)) → route_of (method_of row) (codes "/a/" ++ (tag ++ path)) ≡ Ok (route_with row parameters) }
 {}
 
 /// Only what is served is routed: the row of a route has the method that was asked, and the target up to its query is UTF-8 and

@@ -1,7 +1,7 @@
 //! The routes of requests: which call or event the method and the path of a request name.
 //!
-//! `specs/Rows.antt` has the table, `specs/Routes.antt` how a path is looked up in it, `specs/Ovns.antt` how an OVN stands in
-//! one.
+//! `specs/Rows.antt` has the table, `specs/Served.antt` which of its rows are served at a path, `specs/Routes.antt` how a path is
+//! looked up in it, `specs/Ovns.antt` how an OVN stands in one.
 #![tactic(auto)]
 
 mod found;
