@@ -26,7 +26,7 @@ newest_found flight ps (Some q) kept there =
     let absent : find (is_of flight) ps ≡ None = none_from_no_some (find (is_of flight) ps) (sym (any_is_found (is_of flight) ps) ∙ none) in
     sym (find-append (is_of flight) ps (q ∷ []) ∙ rw (absent, is) refl)
 
-or_none : {X : Type 0} (o : Option X) → option_or o None ≡ o
+pub or_none : {X : Type 0} (o : Option X) → option_or o None ≡ o
 or_none None = refl
 or_none (Some x) = refl
 

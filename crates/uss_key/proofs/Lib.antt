@@ -3,3 +3,4 @@ pub mod Numbers
 pub mod Stores
 pub mod Rooms
 pub mod Caches
+pub mod Others

@@ -1,4 +1,4 @@
-ghost use Rattle.std.specs.Prelude.{◌≡◌, ◌≤◌, ◌+◌, ◌++◌, [], ◌∷◌, List, length, find, option_copied, IsTrue, IsOk, IfSome, OnOk, OnErr};
+ghost use Rattle.std.specs.Prelude.{◌≡◌, ◌≢◌, ◌≤◌, ◌+◌, ◌++◌, [], ◌∷◌, ℕ, List, length, find, option_copied, IsTrue, IsOk, IfSome, IfNone, OnOk, OnErr};
 ghost use Rattle.std.specs.List.{list_any};
 ghost use Rattle.std.specs.Option.{option_map, option_to_list};
 ghost use Rattle.uss_event.specs.Pairs.{OperationalIntent};
@@ -132,10 +132,12 @@ impl Cache {
     }
 
     /// The flight whose pair is forgotten where a pair of this flight is heard: that of the pair heard longest ago, where the cache is
-    /// full and keeps none of this flight. Takes no memory.
+    /// full and keeps none of this flight. Where there is none, the kept pair of each other flight stays. Takes no memory.
     pub fn next_forgotten(&self, flight: FlightId) -> Option<FlightId>
         ensures forgotten { result ≡ forgotten_for flight self.now.pairs }
         ensures only { (p : OperationalIntent) → p.reference.flight ≡ flight → IfSome result (λ other. after_news self.now.pairs (Heard p) ≡ without other self.now.pairs ++ p ∷ []) }
+        ensures none { (p : OperationalIntent) (other : ℕ) → p.reference.flight ≡ flight → other ≢ flight
+            → IfNone result (find (is_of other) (after_news self.now.pairs (Heard p)) ≡ find (is_of other) self.now.pairs) }
     {
         if is_of(&self.newest, flight) || self.settled.has(flight) {
             return None;

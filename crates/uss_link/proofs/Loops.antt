@@ -1,5 +1,5 @@
 -- What the loops over a source and a sink keep, and how one call goes on from it.
-use Rattle.std.proofs.Common.{◌≡◌, ℕ, ◌+◌, ◌<◌, ◌++◌, List, [], length, take, drop, Option, Some, Ok, refl, sym, ◌∙◌, ap, arith, append_assoc, append-nil, length-append, length-take, length-drop}
+use Rattle.std.proofs.Common.{◌≡◌, ℕ, ◌+◌, ◌<◌, ◌≤◌, ◌++◌, List, [], length, take, drop, Option, Some, Ok, refl, sym, ◌∙◌, ap, arith, append_assoc, append-nil, length-append, length-take, length-drop}
 use Rattle.std.proofs.Math.Seq.{take-add, take-nil, drop-nil}
 use Rattle.std.proofs.lemmas.List.{take-append-drop}
 use Rattle.uss_link.specs.Bytes.{Writes, Appended}
@@ -64,6 +64,13 @@ gave_some before now bytes limit gave much left is =
     let had = gave.told left is in
     omega (arith, length-append bytes had.rest, ap length had.parts)
 
--- a buffer that was written over keeps room
-pub room_stays : (n : ℕ) (front items : List ℕ) → n ≡ length items → length front ≡ n → 0 < length items → 0 < length (take n (front ++ drop (length front) items))
-room_stays n front items is_len is_front room = simp (length-take, length-append, length-drop) (omega (arith, is_len, is_front, room))
+-- what is left is what there was but for what was given
+pub gave_at_most : (before now : Option (List ℕ)) (bytes : List ℕ) (limit more : ℕ) → Gave before now bytes → length bytes ≤ limit + more → (left : List ℕ) → before ≡ Some left
+    → (rest : List ℕ) × (now ≡ Some rest) × (length left ≤ length rest + limit + more)
+gave_at_most before now bytes limit more gave few left is =
+    let had = gave.told left is in
+    (had.rest, had.is_left, omega (arith, length-append bytes had.rest, ap length had.parts, few))
+
+-- a buffer that was written over keeps its length
+pub room_stays : (n : ℕ) (front items : List ℕ) → n ≡ length items → length front ≡ n → length (take n (front ++ drop (length front) items)) ≡ length items
+room_stays n front items is_len is_front = simp (length-take, length-append, length-drop) (omega (arith, is_len, is_front))

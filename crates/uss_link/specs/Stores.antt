@@ -3,27 +3,30 @@ use Rattle.std.specs.Prelude.{◌≡◌, ℕ, ◌+◌, ◌==◌, List, [], ◌�
 use Rattle.std.specs.List.{list_any}
 use Rattle.uss_link.specs.Talks.{Talk}
 
--- a source in memory: the bytes that it has left, the numbers of the calls that are to fail, and its two counts
+-- a source in memory: the bytes that it has left, how many it gives at most at a call, the numbers of the calls that are to fail, and its two counts
 pub record Feed : Type 0 where
   pub left : List ℕ
+  pub piece : ℕ
   pub failing : List ℕ
   pub calls : ℕ
   pub faults : ℕ
 
--- a sink in memory: the bytes that it took, the numbers of the calls that are to fail, and its two counts
+-- a sink in memory: the bytes that it took, how many it takes at most at a call, the numbers of the calls that are to fail, and its two counts
 pub record Store : Type 0 where
   pub taken : List ℕ
+  pub piece : ℕ
   pub failing : List ℕ
   pub calls : ℕ
   pub faults : ℕ
 
 -- a dial in memory: the streams that were opened, oldest first, whether the last of them is open, the bytes that it
--- has left to give, the replies of the streams to come, the numbers of the calls that are to fail, and its two counts
+-- has left to give, the replies of the streams to come, how many bytes go at most at a call, the numbers of the calls that are to fail, and its two counts
 pub record Exchanges : Type 0 where
   pub talks : List Talk
   pub is_open : Bool
   pub left : List ℕ
   pub replies : List (List ℕ)
+  pub piece : ℕ
   pub failing : List ℕ
   pub calls : ℕ
   pub faults : ℕ

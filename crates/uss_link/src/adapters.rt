@@ -157,9 +157,9 @@ impl<'a, N: Net> Dial for TcpDial<'a, N> {
     ghost is_open = { λ _. None };
 
     fn reach(&mut self, host: &str, port: u16) -> Result<(), DialFault> {
-        self.stream = None;
         let answer = TcpStream::connect(self.net, (bare(host), port));
-        self.stream = Some(counted(&mut self.faults, answer)?);
+        let stream = counted(&mut self.faults, answer)?;
+        self.stream = Some(stream);
         Ok(())
     }
 

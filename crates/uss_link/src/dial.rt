@@ -19,7 +19,7 @@ pub trait Dial {
     ghost is_open: { Self → Option Bool };
 
     /// Opens the one stream to this host (a name, an IPv4 address, or an IPv6 address in square brackets) and
-    /// port. A stream that was open before is closed.
+    /// port. A stream that was open before is closed; on a fault it stays open.
     fn reach(&mut self, host: &str, port: u16) -> Result<(), DialFault>
         ensures counts { Counts (faults self.old) (faults self.new) result }
         ensures opened { Reaches (talks self.old) (talks self.new) host.now port result }

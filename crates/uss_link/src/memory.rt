@@ -1,4 +1,4 @@
-ghost use Rattle.std.specs.Prelude.{◌≡◌, [], Some, is_err};
+ghost use Rattle.std.specs.Prelude.{◌≡◌, [], Some, is_err, length, max, min, IfOk};
 ghost use Rattle.uss_cause.specs.Cause.{Counts};
 ghost use Rattle.uss_link.specs.Bytes.{Reads, Writes};
 ghost use Rattle.uss_link.specs.Stores.{IsCall, is_listed};
@@ -28,7 +28,7 @@ impl Model for MemorySource {
 
     ghost Value = { Feed };
 
-    ghost view = { λ s. record { left = drop s.place s.bytes.items; failing = s.failing.items; calls = s.calls; faults = s.faults } };
+    ghost view = { λ s. record { left = drop s.place s.bytes.items; piece = s.piece; failing = s.failing.items; calls = s.calls; faults = s.faults } };
 
     ghost invariant = { λ s. (s.place ≤ length s.bytes.items) × (0 < s.piece) };
 }
@@ -36,7 +36,7 @@ impl Model for MemorySource {
 impl MemorySource {
     /// A source that gives these bytes, as many at a call as the buffer takes, and of whose calls none fails.
     pub fn new(alloc: Global, bytes: Vec<u8>) -> MemorySource
-        ensures { result ≡ record { left = bytes.items; failing = []; calls = 0; faults = 0 } }
+        ensures { result ≡ record { left = bytes.items; piece = 18446744073709551615; failing = []; calls = 0; faults = 0 } }
     {
         MemorySource {
             bytes,
@@ -57,7 +57,7 @@ impl MemorySource {
 
     /// The same source, which gives at most so many bytes at a call, and at least one.
     pub fn in_pieces_of(self, piece: usize) -> MemorySource
-        ensures { result ≡ self }
+        ensures { result ≡ record self { piece = max 1 piece } }
     {
         MemorySource {
             piece: piece.max(1),
@@ -93,6 +93,8 @@ impl Source for MemorySource {
         ensures bytes { Reads (Some self.old.left) (Some self.new.left) buffer.old buffer.new result }
         ensures call { IsCall self.old.failing self.old.calls self.old.faults self.new.failing self.new.calls self.new.faults result }
         ensures only { is_err result ≡ is_listed self.new.calls self.old.failing }
+        ensures most { IfOk result (λ n. n ≡ min (min (length self.old.left) (length buffer.old)) self.old.piece) }
+        ensures piece { self.new.piece ≡ self.old.piece }
     {
         self.calls = self.calls.saturating_add(1);
         if self.failing.contains(&self.calls) {
@@ -126,7 +128,7 @@ impl Model for MemorySink {
 
     ghost Value = { Store };
 
-    ghost view = { λ s. record { taken = s.bytes.items; failing = s.failing.items; calls = s.calls; faults = s.faults } };
+    ghost view = { λ s. record { taken = s.bytes.items; piece = s.piece; failing = s.failing.items; calls = s.calls; faults = s.faults } };
 
     ghost invariant = { λ s. 0 < s.piece };
 }
@@ -134,7 +136,7 @@ impl Model for MemorySink {
 impl MemorySink {
     /// A sink that took nothing yet, takes each piece whole, and of whose calls none fails.
     pub fn new(alloc: Global) -> MemorySink
-        ensures { result ≡ record { taken = []; failing = []; calls = 0; faults = 0 } }
+        ensures { result ≡ record { taken = []; piece = 18446744073709551615; failing = []; calls = 0; faults = 0 } }
     {
         MemorySink {
             bytes: Vec::new(alloc),
@@ -154,7 +156,7 @@ impl MemorySink {
 
     /// The same sink, which takes at most so many bytes at a call, and at least one.
     pub fn in_pieces_of(self, piece: usize) -> MemorySink
-        ensures { result ≡ self }
+        ensures { result ≡ record self { piece = max 1 piece } }
     {
         MemorySink {
             piece: piece.max(1),
@@ -196,6 +198,8 @@ impl Sink for MemorySink {
         ensures counts { Counts self.old.faults self.new.faults result }
         ensures bytes { Writes (Some self.old.taken) (Some self.new.taken) bytes.now result }
         ensures call { IsCall self.old.failing self.old.calls self.old.faults self.new.failing self.new.calls self.new.faults result }
+        ensures most { IfOk result (λ n. n ≡ min (length bytes.now) self.old.piece) }
+        ensures piece { self.new.piece ≡ self.old.piece }
     {
         self.calls = self.calls.saturating_add(1);
         if self.failing.contains(&self.calls) {

@@ -1,4 +1,4 @@
-ghost use Rattle.std.specs.Prelude.{◌≡◌, ℕ, ◌≤◌, ◌-◌, ◌++◌, [], ◌∷◌, List, Some, None, drop, length, true, false, IfOk, IfNone, OnOk, OnErr};
+ghost use Rattle.std.specs.Prelude.{◌≡◌, ℕ, ◌≤◌, ◌-◌, ◌++◌, [], ◌∷◌, List, Some, None, drop, length, max, min, true, false, IfOk, IfNone, OnOk, OnErr};
 ghost use Rattle.std.specs.Option.{option_to_list, option_copied};
 ghost use Rattle.uss_cause.specs.Cause.{Counts, Rose};
 ghost use Rattle.uss_link.specs.Bytes.{Takes};
@@ -146,7 +146,7 @@ impl Model for MemoryDial {
 
     ghost Value = { Exchanges };
 
-    ghost view = { λ s. record { talks = s.past.items ++ option_to_list s.last; is_open = s.is_open; left = drop s.place s.reply; replies = s.replies.items; failing = s.failing.items; calls = s.calls; faults = s.faults } };
+    ghost view = { λ s. record { talks = s.past.items ++ option_to_list s.last; is_open = s.is_open; left = drop s.place s.reply; replies = s.replies.items; piece = s.piece; failing = s.failing.items; calls = s.calls; faults = s.faults } };
 
     ghost invariant = { λ s. (s.place ≤ length s.reply) × (0 < s.piece) × IfSome s.last (λ t. IsTrue t.ended → s.place ≡ length s.reply) × IfNone s.last (s.past.items ≡ []) };
 }
@@ -155,7 +155,7 @@ impl MemoryDial {
     /// A dial over which no stream was opened yet, whose streams give these replies, as many bytes at a call as
     /// the buffer takes, and of whose calls none fails.
     pub fn new(alloc: Global, replies: Vec<Reply>) -> MemoryDial
-        ensures { result ≡ record { talks = []; is_open = false; left = []; replies = replies.items; failing = []; calls = 0; faults = 0 } }
+        ensures { result ≡ record { talks = []; is_open = false; left = []; replies = replies.items; piece = 18446744073709551615; failing = []; calls = 0; faults = 0 } }
     {
         MemoryDial {
             alloc,
@@ -181,7 +181,7 @@ impl MemoryDial {
 
     /// The same dial, which takes and gives at most so many bytes at a call, and at least one.
     pub fn in_pieces_of(self, piece: usize) -> MemoryDial
-        ensures { result ≡ self }
+        ensures { result ≡ record self { piece = max 1 piece } }
     {
         MemoryDial {
             piece: piece.max(1),
@@ -299,6 +299,7 @@ impl Dial for MemoryDial {
         ensures reply { OnOk result ((self.new.left ≡ first_or [] self.old.replies) × (self.new.replies ≡ drop 1 self.old.replies)) }
         ensures same { OnErr result ((self.new.left ≡ self.old.left) × (self.new.replies ≡ self.old.replies)) }
         ensures call { IsCall self.old.failing self.old.calls self.old.faults self.new.failing self.new.calls self.new.faults result }
+        ensures piece { self.new.piece ≡ self.old.piece }
     {
         if self.next_call_fails() {
             return Err(self.refuse());
@@ -315,6 +316,8 @@ impl Dial for MemoryDial {
         ensures stream { Speaks (Some self.old.is_open) (Some self.new.is_open) result }
         ensures same { (self.new.left ≡ self.old.left) × (self.new.replies ≡ self.old.replies) }
         ensures call { IsCall self.old.failing self.old.calls self.old.faults self.new.failing self.new.calls self.new.faults result }
+        ensures most { IfOk result (λ n. n ≡ min (length bytes.now) self.old.piece) }
+        ensures piece { self.new.piece ≡ self.old.piece }
     {
         if self.next_call_fails() {
             return Err(self.refuse());
@@ -337,6 +340,8 @@ impl Dial for MemoryDial {
         ensures same { OnErr result (self.new.left ≡ self.old.left) }
         ensures replies { self.new.replies ≡ self.old.replies }
         ensures call { IsCall self.old.failing self.old.calls self.old.faults self.new.failing self.new.calls self.new.faults result }
+        ensures most { IfOk result (λ n. n ≡ min (min (length self.old.left) (length buffer.old)) self.old.piece) }
+        ensures piece { self.new.piece ≡ self.old.piece }
     {
         if self.next_call_fails() {
             return Err(self.refuse());

@@ -55,6 +55,7 @@ fn read_on<S: Source>(
     ensures fault { IsErrOf result ReadWholeRefusal.Fault → Rose (S.faults input.old) (S.faults input.new) }
     ensures possible { result ≢ Err ReadWholeRefusal.TooLarge }
     ensures count { IfOk result (λ n. length bytes.new.items ≡ length bytes.old.items + n) }
+    ensures few { IfOk result (λ n. n ≤ length piece.old) }
     ensures told { (left : List ℕ) → S.left input.old ≡ Some left → IfOk result (Appended left (S.left input.new) bytes.old.items bytes.new.items) }
 {
     let count = match input.read(piece) {
@@ -68,7 +69,7 @@ fn read_on<S: Source>(
 }
 
 /// Reads a source to its end, if it gives no more bytes than `limit`. More than that are refused once they
-/// were taken, without reading on to the end.
+/// were taken, without reading on to the end: at most 65,536 bytes more than the limit are taken.
 pub fn read_whole<S: Source>(
     alloc: Global,
     input: &mut S,
@@ -82,6 +83,8 @@ pub fn read_whole<S: Source>(
     ensures whole { (left : List ℕ) → S.left input.old ≡ Some left → IfOk result (λ bytes. bytes.items ≡ left) }
     ensures ended { (left : List ℕ) → S.left input.old ≡ Some left → IfOk result (λ _. S.left input.new ≡ Some []) }
     ensures too_large { (left : List ℕ) → S.left input.old ≡ Some left → IsErrOf result ReadWholeRefusal.TooLarge → limit < length left }
+    ensures bounded { (left : List ℕ) → S.left input.old ≡ Some left → IsErrOf result ReadWholeRefusal.TooLarge
+        → (rest : List ℕ) × (S.left input.new ≡ Some rest) × (length left ≤ length rest + limit + 65536) }
 {
     let mut piece = match zeros(alloc, PIECE) {
         Ok(piece) => piece,

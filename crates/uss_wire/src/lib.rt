@@ -2,7 +2,8 @@
 //! and those of the operator.
 //!
 //! Each reader gives the value that a message stands for, or the first refusal in the order of the format, and nothing else but want
-//! of memory. Each writer gives the compact text with members ascending by name; a reader gives the value back.
+//! of memory. Each writer gives the compact text with members ascending by name; a reader gives the value back, where one could have
+//! given it.
 #![tactic(auto)]
 
 mod calls;

@@ -1,11 +1,11 @@
-use Rattle.std.proofs.Common.{length, ◌-◌, ◌+◌, ◌≤◌, ◌<◌}
+use Rattle.std.proofs.Common.{◌≡◌, length, ◌-◌, ◌+◌, ◌≤◌}
 use Rattle.uss_link.proofs.Loops.{Gave}
 use Rattle.uss_link.proofs.source.read_whole.Given as goal
 
 abbrev pub invariant-loop-bytes : goal.invariant-loop-bytes
 invariant-loop-bytes g l =
     (length l.bytes.items ≤ l.limit)
-    × (0 < length l.piece.items)
+    × (length l.piece.items ≡ 65536)
     × (g.S.Source.faults l.initial.input ≤ g.S.Source.faults l.input)
     × Gave (g.S.Source.left l.initial.input) (g.S.Source.left l.input) l.bytes.items
 
