@@ -2,3 +2,5 @@ pub mod Cutting
 pub mod Looking
 pub mod Spelled
 pub mod OvnSteps
+pub mod Meaning
+pub mod Routed

@@ -64,7 +64,7 @@ any_by : (p : RouteRow → Bool) (q : RouteRow) (rows : List RouteRow) (t : Bool
 any_by p q rows true later = grind (arith, nat_tests)
 any_by p q rows false later = later
 
-any_kept : (p : RouteRow → Bool) (rows : List RouteRow) → list_any p rows ≡ not (length (filter p rows) == 0)
+pub any_kept : (p : RouteRow → Bool) (rows : List RouteRow) → list_any p rows ≡ not (length (filter p rows) == 0)
 any_kept p [] = refl
 any_kept p (q ∷ rows) = any_by p q rows (p q) (any_kept p rows)
 

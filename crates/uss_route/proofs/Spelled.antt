@@ -12,7 +12,7 @@ use Rattle.uss_route.specs.Routes.{segment, first_segment, behind_segment, are_p
 use Rattle.uss_route.specs.Spelling.{IsParameter, parameters_text, IsPathOf}
 use Rattle.uss_route.proofs.Looking.{both_left, both_right}
 
-abbrev NoSlash : ℕ → Type 0
+abbrev pub NoSlash : ℕ → Type 0
 NoSlash b = (b == 47) ≡ false
 
 is_slash : (b : ℕ) → (b == 47) ≡ true → b ≡ 47
@@ -26,7 +26,7 @@ parts_at : (bytes : List ℕ) (b : ℕ) (t : Bool) → (b == 47) ≡ t → bytes
 parts_at bytes b true e later = rw (segment_at bytes b true e) refl
 parts_at bytes b false e later = rw (segment_at bytes b false e) (ap (λ (l : List ℕ). b ∷ l) later)
 
-parts : (bytes : List ℕ) → bytes ≡ segment bytes ++ drop (length (segment bytes)) bytes
+pub parts : (bytes : List ℕ) → bytes ≡ segment bytes ++ drop (length (segment bytes)) bytes
 parts [] = refl
 parts (b ∷ bytes) = parts_at bytes b (b == 47) refl (parts bytes)
 
@@ -34,7 +34,7 @@ free_at : (bytes : List ℕ) (b : ℕ) (t : Bool) → (b == 47) ≡ t → All No
 free_at bytes b true e later = rw (segment_at bytes b true e) (All-nil NoSlash)
 free_at bytes b false e later = rw (segment_at bytes b false e) (All-cons NoSlash b (segment bytes) e later)
 
-free : (bytes : List ℕ) → All NoSlash (segment bytes)
+pub free : (bytes : List ℕ) → All NoSlash (segment bytes)
 free [] = All-nil NoSlash
 free (b ∷ bytes) = free_at bytes b (b == 47) refl (free bytes)
 
@@ -42,12 +42,12 @@ slash_is : (b : ℕ) → b ≡ 47 → (b == 47) ≡ true
 slash_is b e = grind (arith, nat_tests)
 
 -- what begins with a slash, or is nothing
-abbrev begins : List ℕ → Type 0
+abbrev pub begins : List ℕ → Type 0
 begins [] = Unit {0}
 begins (b ∷ bytes) = b ≡ 47
 
 -- the segment in front of such bytes
-segment_in_front : (p rest : List ℕ) → All NoSlash p → begins rest → segment (p ++ rest) ≡ p
+pub segment_in_front : (p rest : List ℕ) → All NoSlash p → begins rest → segment (p ++ rest) ≡ p
 segment_in_front [] [] all is = refl
 segment_in_front [] (b ∷ rest) all is = segment_at rest b true (slash_is b is)
 segment_in_front (b ∷ p) rest all is = segment_at (p ++ rest) b false (All-head NoSlash b p all) ∙ ap (λ (l : List ℕ). b ∷ l) (segment_in_front p rest (All-tail NoSlash b p all) is)
@@ -56,7 +56,7 @@ text_begins : (ps : List (List ℕ)) → begins (parameters_text ps)
 text_begins [] = tt
 text_begins (p ∷ ps) = refl
 
-behind_front : (p rest : List ℕ) → drop (length p) (p ++ rest) ≡ rest
+pub behind_front : (p rest : List ℕ) → drop (length p) (p ++ rest) ≡ rest
 behind_front [] rest = refl
 behind_front (b ∷ p) rest = behind_front p rest
 
@@ -69,7 +69,7 @@ behind_all p ps = rw one-add (behind_front p (parameters_text ps))
 behind_is : (p : List ℕ) (ps : List (List ℕ)) → IsParameter p → behind_segment (parameters_text (p ∷ ps)) ≡ parameters_text ps
 behind_is p ps is = ap (λ (n : ℕ). drop (1 + n) (parameters_text (p ∷ ps))) (ap length (first_is p ps is)) ∙ behind_all p ps
 
-some_length : (p : List ℕ) → 0 < length p → nat_lt 0 (length p) ≡ true
+pub some_length : (p : List ℕ) → 0 < length p → nat_lt 0 (length p) ≡ true
 some_length p some = grind (arith, nat_tests)
 
 some_is : (p : List ℕ) (ps : List (List ℕ)) → IsParameter p → nat_lt 0 (length (first_segment (parameters_text (p ∷ ps)))) ≡ true
@@ -88,7 +88,7 @@ none_left : (bytes : List ℕ) → (length bytes == 0) ≡ true → bytes ≡ []
 none_left [] e = refl
 none_left (b ∷ bytes) e = absurd (grind (arith, nat_tests))
 
-some_from : (p : List ℕ) → nat_lt 0 (length p) ≡ true → 0 < length p
+pub some_from : (p : List ℕ) → nat_lt 0 (length p) ≡ true → 0 < length p
 some_from p e = grind (arith, nat_tests)
 
 behind_rest : (x : ℕ) (rest text : List ℕ) → behind_segment (x ∷ rest) ≡ text → drop (length (segment rest)) rest ≡ text

@@ -1,4 +1,5 @@
 pub mod Rows
 pub mod Routes
 pub mod Spelling
+pub mod Served
 pub mod Ovns

@@ -66,7 +66,7 @@ pub fn ovn_of_segment(alloc: Global, segment: &[u8]) -> Result<Ovn, IntentRefusa
 /// An OVN as it is written in a path: each byte other than a letter, a digit, `-`, `.`, `_` and `~` as `%` and two upper-case
 /// hexadecimal digits.
 pub fn segment_of_ovn(alloc: Global, ovn: &Ovn) -> Result<String, AllocError>
-    ensures { IfOk result (λ text. string_bytes text ≡ segment_of ovn.now) }
+    ensures text { IfOk result (λ text. string_bytes text ≡ segment_of ovn.now) }
 {
     let mut text = String::new(alloc);
     percent_encode(ovn.as_bytes(), ESCAPED).append_to(&mut text)?;

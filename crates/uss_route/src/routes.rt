@@ -148,7 +148,7 @@ fn route_on(alloc: Global, method: &[u8], path: &[u8]) -> Result<Route, HttpRefu
 /// The route of a method and a target. A `?` in the target and all that follows it is dropped first. A path that is written
 /// out wins over one with a parameter, for the allowed methods too. What isn't UTF-8 has no route.
 pub fn route(alloc: Global, method: &[u8], path: &[u8]) -> Result<Route, HttpRefusal>
-    ensures { (result ≡ Err HttpRefusal.Memory) ⊎ (result ≡ route_of method.now path.now) }
+    ensures answer { (result ≡ Err HttpRefusal.Memory) ⊎ (result ≡ route_of method.now path.now) }
 {
     let path = before(path, b'?');
     match from_utf8(path) {
