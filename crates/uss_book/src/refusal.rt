@@ -24,6 +24,26 @@ pub enum BookFault {
     Memory,
 }
 
+impl BookFault {
+    ghost use Rattle.std.specs.Prelude.{◌≡◌};
+    ghost use Rattle.uss_book.specs.Refusal.{number_of};
+
+    /// The number under which the refusal is printed: 141, 143, 144, 151, 152 or 154, none for want of memory.
+    pub fn number(&self) -> Option<u16>
+        ensures { result ≡ number_of self.now }
+    {
+        match self {
+            BookFault::DiskFault => Some(141),
+            BookFault::NotAJournal(_) => Some(143),
+            BookFault::Spent(_) => Some(144),
+            BookFault::BadEntry(_) => Some(151),
+            BookFault::OtherOwner(_) => Some(152),
+            BookFault::Changed(_) => Some(154),
+            BookFault::Memory => None,
+        }
+    }
+}
+
 impl From<AllocError> for BookFault {
     ghost from_gives = { λ _ e. e ≡ Memory };
 
