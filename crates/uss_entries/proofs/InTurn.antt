@@ -1,5 +1,5 @@
 -- The map of the places of attempts, as entries come.
-use Rattle.std.proofs.Common.{ℕ, ◌+◌, ◌==◌, ◌≢◌, Bool, true, false, cond, ◌&&◌, List, [], ◌∷◌, ◌++◌, ◌≡◌, length, filter, refl, ap, sym, subst, ◌∙◌, arith, Option, Some, None, slice_get, zero, suc}
+use Rattle.std.proofs.Common.{ℕ, ◌+◌, ◌==◌, ◌≢◌, Bool, true, false, cond, ◌&&◌, List, [], ◌∷◌, ◌++◌, ◌≡◌, length, filter, refl, ap, sym, subst, ◌∙◌, arith, Option, Some, None, is_some, slice_get, zero, suc}
 use Rattle.std.specs.List.{last_or}
 use Rattle.std.specs.BTreeMap as tree
 use Rattle.std.specs.BTreeMap.{BTreeMap, is_at}
@@ -12,10 +12,9 @@ use Rattle.uss_law_book.specs.Lists.{Trial, trials}
 use Rattle.uss_law_book.specs.Readings.{trials_of}
 use Rattle.uss_law_book.proofs.Entries.{trials_append}
 use Rattle.uss_legal.specs.Speaks.{trial_in}
-use Rattle.uss_entries.specs.Flights.{IsIn}
 use Rattle.uss_entries.specs.declared.ordinal.Ordinal.{Ordinal}
 use Rattle.uss_entries.specs.OrdinalOrder.{ordinal_cmp}
-use Rattle.uss_entries.specs.Ordinals.{place_in, AreOrdinals, ordinal_for}
+use Rattle.uss_entries.specs.Ordinals.{place_in, IsPlaceOf, AreOrdinals, ordinal_for}
 use Rattle.uss_entries.proofs.Places.{got_last}
 use Rattle.uss_entries.proofs.Marked.{pair_ties}
 use Rattle.uss_entries.proofs.Flown.{in_stays, in_comes}
@@ -77,9 +76,13 @@ now_longer job es t h = trials_longer job es (by_trial t) ∙ ap (λ l. trials_o
 at_ordinal : (a b : Ordinal) → is_at (ordinal_cmp a) b ≡ ((a.job == b.job) && (a.number == b.number))
 at_ordinal a b = pair_ties a.job b.job a.number b.number
 
+-- an attempt's place stays where the attempt is the same
+place_stays : (es : List Entry) (e : Entry) (w : Option ℕ) (o p : Option Trial) → p ≡ o → IsPlaceOf es w o → IsPlaceOf (es ++ e ∷ []) w p
+place_stays es e w o p same h = record { says = in_stays es e trial_in w o p same h.says; found = h.found ∙ ap is_some (sym same) }
+
 pub ordinals_stay : (places : BTreeMap Ordinal (Option ℕ)) (es : List Entry) (e : Entry) → AreOrdinals places es → ordinal_for es e ≡ None → AreOrdinals places (es ++ e ∷ [])
 ordinals_stay places es e are none = λ o.
-    in_stays es e trial_in (place_in (tree.get ordinal_cmp places o)) (slice_get (trials_of o.job es) o.number) (slice_get (trials_of o.job (es ++ e ∷ [])) o.number)
+    place_stays es e (place_in (tree.get ordinal_cmp places o)) (slice_get (trials_of o.job es) o.number) (slice_get (trials_of o.job (es ++ e ∷ [])) o.number)
     (ap (λ (l : List Trial). slice_get l o.number) (else_same o.job es e (none_tried o.job es e none))) (are o)
 
 -- the attempt that comes, and the others
@@ -91,7 +94,7 @@ grown old new es t o are job number put = λ q. go q (o.job == q.job) (o.number 
     e = by_trial t
 
     Right : Ordinal → Option (Option ℕ) → Type 0
-    Right q w = IsIn (es ++ e ∷ []) trial_in (place_in w) (slice_get (trials_of q.job (es ++ e ∷ [])) q.number)
+    Right q w = IsPlaceOf (es ++ e ∷ []) (place_in w) (slice_get (trials_of q.job (es ++ e ∷ [])) q.number)
 
     got : (q : Ordinal) (b : Bool) → ((o.job == q.job) && (o.number == q.number)) ≡ b → tree.get ordinal_cmp new q ≡ cond b (Some (Some (length es))) (tree.get ordinal_cmp old q)
     got q b h = put q ∙ ap (λ x. cond x (Some (Some (length es))) (tree.get ordinal_cmp old q)) (at_ordinal o q ∙ h)
@@ -102,7 +105,7 @@ grown old new es t o are job number put = λ q. go q (o.job == q.job) (o.number 
     stays : (q : Ordinal) → ((o.job == q.job) && (o.number == q.number)) ≡ false → slice_get (trials_of q.job (es ++ e ∷ [])) q.number ≡ slice_get (trials_of q.job es) q.number → Right q (tree.get ordinal_cmp new q)
     stays q h same =
         subst (λ w. Right q w) (sym (got q false h))
-        (in_stays es e trial_in (place_in (tree.get ordinal_cmp old q)) (slice_get (trials_of q.job es) q.number) (slice_get (trials_of q.job (es ++ e ∷ [])) q.number) same (are q))
+        (place_stays es e (place_in (tree.get ordinal_cmp old q)) (slice_get (trials_of q.job es) q.number) (slice_get (trials_of q.job (es ++ e ∷ [])) q.number) same (are q))
 
     comes : (q : Ordinal) → (o.job == q.job) ≡ true → (o.number == q.number) ≡ true → slice_get (trials_of q.job (es ++ e ∷ [])) q.number ≡ Some t
     comes q j n =
@@ -120,7 +123,7 @@ grown old new es t o are job number put = λ q. go q (o.job == q.job) (o.number 
     go : (q : Ordinal) (b c : Bool) → (o.job == q.job) ≡ b → (o.number == q.number) ≡ c → Right q (tree.get ordinal_cmp new q)
     go q true true j n =
         subst (λ w. Right q w) (sym (got q true (ap (λ b. b && (o.number == q.number)) j ∙ n)))
-        (in_comes es e trial_in (slice_get (trials_of q.job (es ++ e ∷ [])) q.number) (comes q j n))
+        (record { says = in_comes es e trial_in (slice_get (trials_of q.job (es ++ e ∷ [])) q.number) (comes q j n); found = ap is_some (sym (comes q j n)) })
     go q true false j n =
         stays q (ap (λ b. b && (o.number == q.number)) j ∙ n)
         (ap (λ (l : List Trial). slice_get l q.number) (now_longer q.job es t (of_job q true j)) ∙ got_else (trials_of q.job es) t q.number (apart q j n))
@@ -138,4 +141,4 @@ ordinals_grow old new es e o place are makes at put = cc
 
 pub none_in_turn : (m : BTreeMap Ordinal (Option ℕ)) → m.entries ≡ [] → AreOrdinals m []
 unfolding trials_of
-none_in_turn m none = λ o. rw none refl
+none_in_turn m none = λ o. rw none (record { says = refl; found = refl })

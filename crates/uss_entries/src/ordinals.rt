@@ -1,9 +1,7 @@
 ghost use Rattle.std.specs.Prelude.{◌≡◌, ◌++◌, ◌∷◌, [], List, length, slice_get, IsTrue, OnOk};
 ghost use Rattle.uss_event.specs.declared.entries.Entry.{Entry};
 ghost use Rattle.uss_law_book.specs.Readings.{trials_of};
-ghost use Rattle.uss_legal.specs.Speaks.{trial_in};
-ghost use Rattle.uss_entries.specs.Flights.{IsIn};
-ghost use Rattle.uss_entries.specs.Ordinals.{AreOrdinals, has_ordinal_room, ordinal_for};
+ghost use Rattle.uss_entries.specs.Ordinals.{IsPlaceOf, AreOrdinals, has_ordinal_room, ordinal_for};
 
 use crate::ordinal::Ordinal;
 use std::alloc::{AllocError, Global};
@@ -57,7 +55,7 @@ impl Ordinals {
 
     /// Where the attempt stands.
     pub(crate) fn place(&self, ordinal: Ordinal) -> Option<usize>
-        ensures { (es : List Entry) → AreOrdinals self.now.places es → IsIn es trial_in result (slice_get (trials_of ordinal.job es) ordinal.number) }
+        ensures { (es : List Entry) → AreOrdinals self.now.places es → IsPlaceOf es result (slice_get (trials_of ordinal.job es) ordinal.number) }
     {
         match self.places.get(&ordinal) {
             Some(place) => *place,
