@@ -1,6 +1,7 @@
 -- What is due finds its room.
 use Rattle.std.proofs.Common.{ℕ, ◌+◌, ◌*◌, ◌≤◌, Bool, true, false, cond, not, ◌&&◌, List, [], ◌∷◌, ◌≡◌, filter, length, get_or, refl, ap, sym, ◌∙◌, arith, is_some}
 use Rattle.std.specs.Prelude.{sum_by}
+use Rattle.std.proofs.lemmas.List.Filters.{sum_by-filter_both}
 use Rattle.std.proofs.lemmas.List.Sums.{sum_by-le}
 use Rattle.uss_intent.specs.declared.records.Subscriber.{Subscriber}
 use Rattle.uss_event.specs.declared.entries.Ending.{Ending}
@@ -9,15 +10,15 @@ use Rattle.uss_event.specs.declared.entries.Entry.{Entry}
 use Rattle.uss_event.specs.declared.entries.Entry.TheVariants.{Opened, TicketOpen, Pending, Held, Deciding, Done, TicketGone, Sent}
 use Rattle.uss_event.specs.declared.entries.Entry.TheVariants as Enters
 use Rattle.uss_law_book.specs.Readings.{is_closed, is_ticket_open, decision_of, owed_at_end}
-use Rattle.uss_law_book.specs.Coding.{HasCoding, IsEnding, AreOwed, subscriber_length, owed_length, ending_length, record_length}
+use Rattle.uss_law_book.specs.Coding.{HasCoding, IsEnding, AreOwed, subscriber_length, owed_length, ending_length, record_length, journal_length}
 use Rattle.uss_law_book.specs.Legal.{IsDue, IsLegal, is_owner}
-use Rattle.uss_law_book.specs.Reserve.{reserved}
+use Rattle.uss_law_book.specs.Reserve.{need, is_reserved, reserved}
 use Rattle.uss_law_book.proofs.Kept.{open_parts}
 use Rattle.uss_coding_base.specs.TextLaws.{base_short}
 use Rattle.uss_entries.specs.Reserve.{for_ticket, taken, released, settled_by}
 use Rattle.uss_entries.proofs.Needed.{need_grows}
 use Rattle.uss_entries.proofs.Settled.{settled_grows}
-use Rattle.uss_book.specs.Ends.{opens, EachGoesOn, EachOpens}
+use Rattle.uss_book.specs.Ends.{opens, EachGoesOn, EachOpens, EachOpensByUsed}
 use Rattle.uss_book.proofs.Room.{legal_covers, short_name, short_ovn, open_job_wrote}
 
 few_owed_bytes : (owed : List Subscriber) → AreOwed owed → owed_length owed ≤ 2686980
@@ -67,3 +68,13 @@ each_opens book job moment ask l d =
     let g = need_grows book e l d in
     let s = settled_grows book e l d in
     (λ h. omega (arith, g, s, h), λ h. omega (arith, g, s, h))
+
+-- what is reserved is at most the journal and what is kept free
+reserved_within : (book : List Entry) → reserved book ≤ journal_length book + need book
+unfolding reserved journal_length
+reserved_within book =
+    let split = sum_by-filter_both (is_reserved book) (λ (e : Entry). not (is_reserved book e)) (λ e. refl) record_length book in
+    omega (arith, split)
+
+pub each_opens_by_used : EachOpensByUsed
+each_opens_by_used book job moment ask l d h = (each_opens book job moment ask l d).1 (omega (arith, h, reserved_within book))

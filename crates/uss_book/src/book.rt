@@ -160,6 +160,8 @@ impl<D: Disk> Book<D> {
             (λ r. RefusedBy owner (bytes_of (D.reads disk)) r.refusal) }
         ensures durable { D.is_honest disk → IfOk result (λ b. (image : List ℕ) → D.may_leave b.disk image → StandsForBook b.entries image) }
 
+        // The file of a book that was there stays as it was.
+        ensures stays { D.is_honest disk → IfOk result (λ b. StandsForBook b.entries (bytes_of (D.reads disk)) → bytes_of (D.reads b.disk) ≡ bytes_of (D.reads disk)) }
         ensures untouched { D.is_honest disk → IfErr result (λ r. IsLeft (bytes_of (D.reads disk)) (bytes_of (D.reads r.back)) r.refusal) }
 
         // A crash at any moment of it leaves what it could have left before, or what stands for the same; or, where that is no record,

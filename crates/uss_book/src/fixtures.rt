@@ -170,17 +170,3 @@ pub(crate) fn outcome_of<D: Disk>(answer: Result<Book<D>, BookRefusal<D>>) -> (G
         Err(why) => (got_by(&why.refusal), why.back),
     }
 }
-
-// Enters this, where it may follow.
-pub(crate) fn enter<D: Disk>(
-    rt: &impl Abort,
-    alloc: Global,
-    book: &mut Book<D>,
-    coding: Coding,
-) -> Result<bool, AllocError> {
-    let entry = entry_of(rt, alloc, coding)?;
-    if !book.may_follow(&entry) {
-        return Ok(false);
-    }
-    Ok(book.enter(entry).is_ok())
-}

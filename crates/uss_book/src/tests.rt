@@ -1,7 +1,7 @@
 // The book on a disk in memory: mounted by records, and after a stop at each call. A row names its records, and each helper answers
 // whether what it saw is as it should be.
 use crate::fixtures::{
-    Coding, Got, add, bytes_of, enter, file_of, got_by, kept, mount, outcome_of, owner_of, refused,
+    Coding, Got, add, bytes_of, entry_of, file_of, got_by, kept, mount, outcome_of, refused,
 };
 use crate::{Book, view};
 use std::alloc::{AllocError, Global};
@@ -93,6 +93,25 @@ fn is_answered(
     Ok(found == wanted && (wanted.number == 0 || disk.bytes() == file))
 }
 
+// How many entries a view has of a file, or the refusal.
+fn viewed(alloc: Global, file: &[u8]) -> Result<Got, AllocError> {
+    let disk = MemoryDisk::with_bytes(alloc, file, Vec::new(alloc))?;
+    match view(alloc, disk) {
+        Ok((entries, _)) => Ok(kept(entries.len() as u64)),
+        Err(why) => Ok(got_by(&why.refusal)),
+    }
+}
+
+// What a view of these records answers where a mount answers this: another owner's book is viewed too, and of no record there is no
+// entry.
+fn wanted_of_view(records: &[Coding], mounted: Got) -> Got {
+    if mounted.number == 0 || mounted.number == 152 {
+        kept(records.len() as u64)
+    } else {
+        mounted
+    }
+}
+
 #[test]
 fn records_are_judged_one_after_another(rt: HostRuntime) -> Result<(), Fail> {
     for (records, entries, number, carries) in &JUDGED {
@@ -103,9 +122,16 @@ fn records_are_judged_one_after_another(rt: HostRuntime) -> Result<(), Fail> {
             carries: *carries,
         };
         assert!(rt; is_answered(&rt, rt.alloc(), &file, wanted)?);
+        assert!(rt; viewed(rt.alloc(), &file)? == wanted_of_view(records, wanted));
     }
+    Ok(())
+}
+
+#[test]
+fn other_files_are_no_journals(rt: HostRuntime) -> Result<(), Fail> {
     for (file, place) in &NO_JOURNAL {
         assert!(rt; is_answered(&rt, rt.alloc(), file, refused(143, *place))?);
+        assert!(rt; viewed(rt.alloc(), file)? == refused(143, *place));
     }
     Ok(())
 }
@@ -188,38 +214,69 @@ fn a_book_is_mounted_whatever_call_fails_or_stops(rt: HostRuntime) -> Result<(),
     Ok(())
 }
 
-// A new book with a plan, a ticket and an attempt, where each was entered, and the room was kept.
-fn entered(rt: &impl Abort, alloc: Global) -> Result<MemoryDisk, AllocError> {
-    let Ok(mut book) = mount(rt, alloc, b"", Vec::new(alloc))? else {
-        rt.abort();
-    };
-    let new = book.used();
-    let done = enter(rt, alloc, &mut book, Coding::Plan)?
-        && enter(rt, alloc, &mut book, Coding::Ticket)?
-        && enter(rt, alloc, &mut book, Coding::Trial)?
-        && !enter(rt, alloc, &mut book, Coding::Again)?;
-    if !done || new != 49 || book.used() != 221 || book.need() != 8_388_608 {
-        rt.abort();
+// Enters this, if it may follow, and tells whether it may.
+fn enter<D: Disk>(
+    rt: &impl Abort,
+    alloc: Global,
+    book: &mut Book<D>,
+    coding: Coding,
+) -> Result<bool, AllocError> {
+    let entry = entry_of(rt, alloc, coding)?;
+    if !book.may_follow(&entry) {
+        return Ok(false);
     }
-    Ok(book.release())
+    Ok(book.enter(entry).is_ok())
+}
+
+// Whether a plan, a ticket and an attempt are entered, no second plan of the flight may follow, and the room is kept.
+fn enter_three<D: Disk>(
+    rt: &impl Abort,
+    alloc: Global,
+    book: &mut Book<D>,
+) -> Result<bool, AllocError> {
+    let new = book.used() == 49;
+    let plan = enter(rt, alloc, book, Coding::Plan)?;
+    let ticket = enter(rt, alloc, book, Coding::Ticket)?;
+    let trial = enter(rt, alloc, book, Coding::Trial)?;
+    let again = enter(rt, alloc, book, Coding::Again)?;
+    let room = book.used() == 221 && book.need() == 8_388_608;
+    Ok(new && plan && ticket && trial && !again && room)
+}
+
+// A new book in which these were entered.
+fn entered(rt: &impl Abort, alloc: Global) -> Result<Option<Book<MemoryDisk>>, AllocError> {
+    match mount(rt, alloc, b"", Vec::new(alloc))? {
+        Ok(mut book) => match enter_three(rt, alloc, &mut book)? {
+            true => Ok(Some(book)),
+            false => Ok(None),
+        },
+        Err(_) => Ok(None),
+    }
+}
+
+// Whether a mount after each stop finds the entries before the last that was begun, or with it. A new book is made by eight calls, and
+// each entry is entered by four.
+fn are_found(rt: &impl Abort, alloc: Global, calls: &[Call]) -> Result<bool, AllocError> {
+    for stop in 8..calls.len() {
+        let known = (stop as u64 / 4).saturating_sub(1);
+        let found = found_after(rt, alloc, b"", &calls[..stop])?;
+        let next = stop % 4 != 0 && found == kept(known.saturating_add(1));
+        if found != kept(known) && !next {
+            return Ok(false);
+        }
+    }
+    Ok(calls.len() == 20 && found_after(rt, alloc, b"", calls)? == kept(4))
 }
 
 #[test]
 fn a_stop_at_any_call_leaves_the_book_before_it_or_with_the_one_entry(
     rt: HostRuntime,
 ) -> Result<(), Fail> {
-    let disk = entered(&rt, rt.alloc())?;
-    let calls = disk.calls();
-    assert_eq!(rt; calls.len(), 20);
-    // A new book is made by eight calls, and each entry is entered by four.
-    for stop in 8..calls.len() {
-        let known = (stop as u64 / 4).saturating_sub(1);
-        let found = found_after(&rt, rt.alloc(), b"", &calls[..stop])?;
-        assert!(rt;
-            found == kept(known) || (stop % 4 != 0 && found == kept(known.saturating_add(1)))
-        );
-    }
-    assert!(rt; found_after(&rt, rt.alloc(), b"", calls)? == kept(4));
+    let Some(book) = entered(&rt, rt.alloc())? else {
+        rt.abort();
+    };
+    let disk = book.release();
+    assert!(rt; are_found(&rt, rt.alloc(), disk.calls())?);
     Ok(())
 }
 
@@ -243,25 +300,34 @@ fn opened(alloc: Global, count: u8) -> Result<Vec<u8>, AllocError> {
 }
 
 // Whether a book of 63 open jobs keeps 63 times 8 MiB free, and has no room for the next: another job's opening.
-fn is_at_the_limit(rt: &impl Abort, alloc: Global) -> Result<bool, AllocError> {
-    let Ok(book) = mount(rt, alloc, &opened(alloc, 63)?, Vec::new(alloc))? else {
-        return Ok(false);
-    };
-    let Some(next) = read(alloc, &opening_of(alloc, 64)?)? else {
-        return Ok(false);
-    };
-    Ok(
-        book.len() == 64
-            && book.used() == 8_239
-            && book.need() == 528_482_304
-            && book.live_job(63) == Some(63)
-            && !book.may_follow(&next),
-    )
+fn is_full<D: Disk>(rt: &impl Abort, alloc: Global, book: &Book<D>) -> Result<bool, AllocError> {
+    let room = book.len() == 64 && book.used() == 8_239 && book.need() == 528_482_304;
+    let next = opening_of(alloc, 64)?;
+    match read(alloc, &next)? {
+        Some(next) => Ok(room && book.live_job(63) == Some(63) && !book.may_follow(&next)),
+        None => rt.abort(),
+    }
+}
+
+// A book of so many open jobs.
+fn with_open(
+    rt: &impl Abort,
+    alloc: Global,
+    count: u8,
+) -> Result<Option<Book<MemoryDisk>>, AllocError> {
+    let file = opened(alloc, count)?;
+    match mount(rt, alloc, &file, Vec::new(alloc))? {
+        Ok(book) => Ok(Some(book)),
+        Err(_) => Ok(None),
+    }
 }
 
 #[test]
 fn at_most_63_jobs_are_open(rt: HostRuntime) -> Result<(), Fail> {
-    assert!(rt; is_at_the_limit(&rt, rt.alloc())?);
+    let Some(book) = with_open(&rt, rt.alloc(), 63)? else {
+        rt.abort();
+    };
+    assert!(rt; is_full(&rt, rt.alloc(), &book)?);
     let file = opened(rt.alloc(), 64)?;
     assert!(rt; is_answered(&rt, rt.alloc(), &file, refused(151, 64))?);
     Ok(())
@@ -465,26 +531,23 @@ fn tells_of_the_owed<D: Disk>(book: &Book<D>, row: &Telling) -> bool {
         && book.untold(1, 2).is_none()
 }
 
-// Whether a book of the row's records tells what the row says, and a view of it has as many.
+// Whether a book tells what the row says, and has as many entries as the row has records.
+fn tells<D: Disk>(book: &Book<D>, row: &Telling) -> bool {
+    tells_of_the_flight(book, row)
+        && tells_of_the_attempts(book, row)
+        && tells_of_the_owed(book, row)
+        && book.entry(0).is_some()
+        && book.entry(book.len()).is_none()
+        && book.len() == row.records.len() as u64
+}
+
+// Whether a book of the row's records tells what the row says.
 fn is_told(rt: &impl Abort, alloc: Global, row: &Telling) -> Result<bool, AllocError> {
     let file = file_of(alloc, row.records)?;
     let Ok(book) = mount(rt, alloc, &file, Vec::new(alloc))? else {
         return Ok(false);
     };
-    let told = tells_of_the_flight(&book, row)
-        && tells_of_the_attempts(&book, row)
-        && tells_of_the_owed(&book, row)
-        && book.entry(0).is_some()
-        && book.entry(book.len()).is_none();
-    Ok(told && viewed(alloc, book.release()) == row.records.len())
-}
-
-// How many entries a view has.
-fn viewed(alloc: Global, disk: MemoryDisk) -> usize {
-    match view(alloc, disk) {
-        Ok((entries, _)) => entries.len(),
-        Err(_) => 0,
-    }
+    Ok(tells(&book, row))
 }
 
 #[test]
