@@ -1,7 +1,8 @@
 -- What is due finds its room.
 use Rattle.std.proofs.Common.{ℕ, ◌+◌, ◌*◌, ◌≤◌, Bool, true, false, cond, not, ◌&&◌, List, [], ◌∷◌, ◌≡◌, filter, length, get_or, refl, ap, sym, ◌∙◌, arith, is_some}
 use Rattle.std.specs.Prelude.{sum_by}
-use Rattle.std.proofs.lemmas.List.Sums.{sum_by-cons, sum_by-le}
+use Rattle.std.proofs.lemmas.List.Filters.{sum_by-filter_both}
+use Rattle.std.proofs.lemmas.List.Sums.{sum_by-le}
 use Rattle.uss_intent.specs.declared.records.Subscriber.{Subscriber}
 use Rattle.uss_event.specs.declared.entries.Ending.{Ending}
 use Rattle.uss_event.specs.declared.entries.Ending.TheVariants.{Conflict, Stale, Cancelled, Ended}
@@ -9,46 +10,16 @@ use Rattle.uss_event.specs.declared.entries.Entry.{Entry}
 use Rattle.uss_event.specs.declared.entries.Entry.TheVariants.{Opened, TicketOpen, Pending, Held, Deciding, Done, TicketGone, Sent}
 use Rattle.uss_event.specs.declared.entries.Entry.TheVariants as Enters
 use Rattle.uss_law_book.specs.Readings.{is_closed, is_ticket_open, decision_of, owed_at_end}
-use Rattle.uss_law_book.specs.Coding.{HasCoding, IsEnding, AreOwed, subscriber_length, owed_length, ending_length, record_length}
+use Rattle.uss_law_book.specs.Coding.{HasCoding, IsEnding, AreOwed, subscriber_length, owed_length, ending_length, record_length, journal_length}
 use Rattle.uss_law_book.specs.Legal.{IsDue, IsLegal, is_owner}
-use Rattle.uss_law_book.specs.Reserve.{reserved}
+use Rattle.uss_law_book.specs.Reserve.{need, is_reserved, reserved}
 use Rattle.uss_law_book.proofs.Kept.{open_parts}
 use Rattle.uss_coding_base.specs.TextLaws.{base_short}
 use Rattle.uss_entries.specs.Reserve.{for_ticket, taken, released, settled_by}
-use Rattle.uss_entries.specs.Tallies.{is_later_of, bytes_of}
 use Rattle.uss_entries.proofs.Needed.{need_grows}
 use Rattle.uss_entries.proofs.Settled.{settled_grows}
-use Rattle.uss_book.specs.Ends.{opens, EachGoesOn, EachOpens}
-use Rattle.uss_book.proofs.Room.{legal_covers, short_name, short_ovn, made_by, written_by, weight, open_job_wrote}
-
-later_is_made : (job : ℕ) (e : Entry) → is_later_of job e ≡ made_by job e
-later_is_made job (Enters.Owner owner) = refl
-later_is_made job (Opened j moment ask) = refl
-later_is_made job (TicketOpen j) = refl
-later_is_made job (Pending j tag alternative previous key) = refl
-later_is_made job (Held j tag ovn version owed) = refl
-later_is_made job (Deciding j end) = refl
-later_is_made job (Done j end) = refl
-later_is_made job (TicketGone j) = refl
-later_is_made job (Sent j place) = refl
-
--- the bytes of a job's entries after its opening
-bytes_written : (job : ℕ) (es : List Entry) → sum_by record_length (filter (is_later_of job) es) ≡ written_by job es
-bytes_written job [] = refl
-bytes_written job (e ∷ es) = go (bytes_written job es) (is_later_of job e) refl
-  where
-    go : sum_by record_length (filter (is_later_of job) es) ≡ written_by job es → (b : Bool) → is_later_of job e ≡ b
-        → sum_by record_length (cond b (e ∷ filter (is_later_of job) es) (filter (is_later_of job) es)) ≡ written_by job (e ∷ es)
-    go rest false h =
-        let none : weight job e ≡ 0 = ap (λ (b : Bool). cond b (record_length e) 0) (sym (later_is_made job e) ∙ h) in
-        omega (arith, rest, none, sum_by-cons (weight job) e es)
-    go rest true h =
-        let all : weight job e ≡ record_length e = ap (λ (b : Bool). cond b (record_length e) 0) (sym (later_is_made job e) ∙ h) in
-        omega (arith, rest, all, sum_by-cons (weight job) e es, sum_by-cons record_length e (filter (is_later_of job) es))
-
-few_bytes_of : (book : List Entry) (job : ℕ) → IsLegal book → is_closed job book ≡ false → bytes_of job book ≤ 2230822
-unfolding bytes_of
-few_bytes_of book job h u = omega (arith, bytes_written job book, open_job_wrote book job h u)
+use Rattle.uss_book.specs.Ends.{opens, EachGoesOn, EachOpens, EachOpensByUsed}
+use Rattle.uss_book.proofs.Room.{legal_covers, short_name, short_ovn, open_job_wrote}
 
 few_owed_bytes : (owed : List Subscriber) → AreOwed owed → owed_length owed ≤ 2686980
 few_owed_bytes owed h =
@@ -74,10 +45,10 @@ balanced book (TicketOpen job) l d c n o = omega arith
 balanced book (Pending job tag alternative previous key) l d c n o = omega arith
 balanced book (Held job tag ovn version owed) l d c n o =
     let u = (open_parts book job d.unfinished).2 in
-    omega (arith, few_bytes_of book job l u, short_ovn ovn c.valid_ovn, few_owed_bytes owed c.valid_owed, c.valid_owed.0, few_for_ticket (is_ticket_open job book))
+    omega (arith, open_job_wrote book job l u, short_ovn ovn c.valid_ovn, few_owed_bytes owed c.valid_owed, c.valid_owed.0, few_for_ticket (is_ticket_open job book))
 balanced book (Deciding job end) l d c n o = omega arith
 balanced book (Done job end) l d c n o =
-    omega (arith, few_bytes_of book job l d.unclosed, few_at_end end c.1, few_for_ticket (is_ticket_open job book && not (is_some (decision_of job book))))
+    omega (arith, open_job_wrote book job l d.unclosed, few_at_end end c.1, few_for_ticket (is_ticket_open job book && not (is_some (decision_of job book))))
 balanced book (TicketGone job) l d c n o = omega arith
 balanced book (Sent job place) l d c n o = omega arith
 
@@ -97,3 +68,13 @@ each_opens book job moment ask l d =
     let g = need_grows book e l d in
     let s = settled_grows book e l d in
     (λ h. omega (arith, g, s, h), λ h. omega (arith, g, s, h))
+
+-- what is reserved is at most the journal and what is kept free
+reserved_within : (book : List Entry) → reserved book ≤ journal_length book + need book
+unfolding reserved journal_length
+reserved_within book =
+    let split = sum_by-filter_both (is_reserved book) (λ (e : Entry). not (is_reserved book e)) (λ e. refl) record_length book in
+    omega (arith, split)
+
+pub each_opens_by_used : EachOpensByUsed
+each_opens_by_used book job moment ask l d h = (each_opens book job moment ask l d).1 (omega (arith, h, reserved_within book))

@@ -121,3 +121,20 @@ pub owned_left : {D : Type 0} (bytes : D → List ℕ) (owner : Owner) (file : L
     → disk_after result ≡ mid → IfErr result (λ r. IsAnothers items owner r.refusal) → IfErr result (λ r. IsLeft file (bytes r.back) r.refusal)
 owned_left bytes owner file items mid (Ok b) is stands same h = tt
 owned_left bytes owner file items mid (Err r) is stands same h = left_as_anothers bytes owner file items mid r.back r.refusal is stands same h
+
+-- ---- what an accepted mount leaves of a file
+
+-- the book was there
+pub owned_stays : {D : Type 0} (bytes : D → List ℕ) (owner : Owner) (file : List ℕ) (mid : D) (result : Result (BookView D) (BookRefusal D)) → bytes mid ≡ mounted file
+    → disk_after result ≡ mid → IfOk result (λ b. owner_of b.entries ≡ Some owner) → IfOk result (λ b. StandsForBook b.entries file → bytes b.disk ≡ file)
+owned_stays bytes owner file mid (Ok b) is same own = λ h. ap bytes same ∙ is ∙ with_records file (records_of b.entries) h (some_items b.entries owner own)
+owned_stays bytes owner file mid (Err r) is same own = tt
+
+-- the new book wasn't there
+pub begun_stays : {D : Type 0} (bytes : D → List ℕ) (owner : Owner) (file : List ℕ) (items : List Entry) (result : Result (BookView D) (BookRefusal D)) → items ≡ [] → StandsForBook items file
+    → IfOk result (λ b. b.entries ≡ new_book owner) → IfOk result (λ b. StandsForBook b.entries file → bytes b.disk ≡ file)
+begun_stays bytes owner file items (Ok b) none stands new = λ h.
+    let empty : stands_for file ≡ Ok [] = stands ∙ ap (λ (es : List Entry). Ok (records_of es)) none in
+    let full : stands_for file ≡ Ok (records_of (new_book owner)) = h ∙ ap (λ (es : List Entry). Ok (records_of es)) new in
+    absurd (cc)
+begun_stays bytes owner file items (Err r) none stands new = tt

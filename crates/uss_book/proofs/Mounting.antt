@@ -14,9 +14,8 @@ use Rattle.uss_law_book.proofs.EachOrderly.{legal_longer}
 use Rattle.uss_book.specs.Book.{BookWithOrWithout, records_of}
 use Rattle.uss_book.specs.Whole.{IsWhole}
 use Rattle.uss_book.specs.Refusal.{SaysNothing, passed_on}
-use Rattle.uss_book.specs.Reread.{RereadBy, IsByRecords, after_refusal, apart}
+use Rattle.uss_book.specs.Reread.{IsByRecords, IsOfReading, after_refusal, apart}
 use Rattle.uss_book.specs.declared.refusal.BookFault.{BookFault}
-use Rattle.uss_book.specs.declared.refusal.BookFault.TheVariants as Faults
 use Rattle.uss_book.proofs.Lengths.{used_is}
 use Rattle.uss_book.proofs.Entering.{as_read}
 use Rattle.uss_book.proofs.Rereading.{read_on}
@@ -33,15 +32,6 @@ read_records (Err place) = []
 
 one_reading : (a b : List (List ℕ)) (r : Result (List (List ℕ)) ℕ) → r ≡ Ok a → r ≡ Ok b → a ≡ b
 one_reading a b r e f = ap read_records (sym e ∙ f)
-
-pub by_records : (known : List Entry) (records : List (List ℕ)) (fault : BookFault) → RereadBy known records fault → IsByRecords known records fault
-by_records known records (Faults.BadEntry n) h = h
-by_records known records (Faults.OtherOwner kept) h = h
-by_records known records (Faults.Changed n) h = h
-by_records known records Faults.Memory h = tt
-by_records known records Faults.DiskFault h = tt
-by_records known records (Faults.NotAJournal place) h = tt
-by_records known records (Faults.Spent count) h = tt
 
 pub by_journal : (known : List Entry) (records : List (List ℕ)) (r : JournalRefusal) → IsByRecords known records (passed_on r)
 by_journal known records DiskFault = tt
@@ -117,17 +107,17 @@ module _ {D : Type 0} (may_leave : D → List ℕ → Type 0) (is_honest : D →
       }
 
   -- on an honest disk the book is refused for want of memory alone
-  pub refused_for_memory : (file : List ℕ) (fault : BookFault) → is_honest old.disk → StandsFor new.records file → WithOrWithout old.records old.tried file → RereadBy es new.records fault → SaysNothing fault
-  refused_for_memory file fault honest found kept by = go tried refl (whole.agrees honest file kept)
+  pub refused_for_memory : (file : List ℕ) (fault : BookFault) → is_honest old.disk → StandsFor new.records file → WithOrWithout old.records old.tried file → IsByRecords es new.records fault → IsOfReading fault → SaysNothing fault
+  refused_for_memory file fault honest found kept by reading = go tried refl (whole.agrees honest file kept)
     where
       go : (t : Option Entry) → tried ≡ t → BookWithOrWithout es t file → SaysNothing fault
       go t e (inl without) =
           let same : new.records ≡ records_of es = one_reading new.records (records_of es) (stands_for file) found without in
-          read_on es [] fault (subst IsLegal (sym (append-nil es)) whole.legal) (subst (λ (rs : List (List ℕ)). RereadBy es rs fault) (same ∙ ap records_of (sym (append-nil es))) by)
+          read_on es [] fault (subst IsLegal (sym (append-nil es)) whole.legal) (subst (λ (rs : List (List ℕ)). IsByRecords es rs fault) (same ∙ ap records_of (sym (append-nil es))) by) reading
       go None e (inr with') = absurd with'
       go (Some x) e (inr with') =
           let same : new.records ≡ records_of (es ++ x ∷ []) = one_reading new.records (records_of (es ++ x ∷ [])) (stands_for file) found with' in
-          read_on es (x ∷ []) fault (legal_longer [] es x whole.legal (subst (λ (t : Option Entry). IfSome t (MayFollow es)) e whole.follows)) (subst (λ (rs : List (List ℕ)). RereadBy es rs fault) same by)
+          read_on es (x ∷ []) fault (legal_longer [] es x whole.legal (subst (λ (t : Option Entry). IfSome t (MayFollow es)) e whole.follows)) (subst (λ (rs : List (List ℕ)). IsByRecords es rs fault) same by) reading
 
 pub remount_crash : {D : Type 0} (moment : D → ℕ) (left_since : D → ℕ → List ℕ → Type 0) (old new : D) (es : List Entry) (tried : Option Entry) (records : List (List ℕ)) (tried' : Option (List ℕ))
     → ((image : List ℕ) → WithOrWithout records tried' image → BookWithOrWithout es tried image)

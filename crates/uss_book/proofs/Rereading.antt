@@ -16,7 +16,7 @@ use Rattle.uss_law_book.proofs.EachOrderly.{legal_rest, legal_beginning}
 use Rattle.uss_coding.specs.Coding.{coding_of}
 use Rattle.uss_coding.specs.Laws.{one_coding}
 use Rattle.uss_book.specs.Book.{records_of, IsBadEntry}
-use Rattle.uss_book.specs.Reread.{BeginsWith, IsOther, AreAnothers, RereadBy}
+use Rattle.uss_book.specs.Reread.{BeginsWith, IsOther, AreAnothers, IsByRecords, IsOfReading}
 use Rattle.uss_book.specs.Refusal.{SaysNothing}
 use Rattle.uss_book.specs.declared.refusal.BookFault.{BookFault}
 use Rattle.uss_book.specs.declared.refusal.BookFault.TheVariants.{DiskFault, NotAJournal, Spent, BadEntry, OtherOwner, Changed, Memory}
@@ -64,24 +64,24 @@ no_bad es n h b =
     b.bad x (subst (λ (l : List Entry). MayFollow l x) (sym same) m.0) found
 
 -- a legal book that goes on from the known entries, and that is read again, is refused for want of memory alone
-pub read_on : (known more : List Entry) (fault : BookFault) → IsLegal (known ++ more) → RereadBy known (records_of (known ++ more)) fault → SaysNothing fault
-read_on known more (BadEntry n) legal h = no_bad (known ++ more) n legal h
-read_on known more (OtherOwner kept) legal h =
+pub read_on : (known more : List Entry) (fault : BookFault) → IsLegal (known ++ more) → IsByRecords known (records_of (known ++ more)) fault → IsOfReading fault → SaysNothing fault
+read_on known more (BadEntry n) legal h r = no_bad (known ++ more) n legal h
+read_on known more (OtherOwner kept) legal h r =
     let same : h.is.entries ≡ known ++ more = same_entries h.is.entries (known ++ more) (legal_coded h.is.entries h.is.legal) (legal_coded (known ++ more) legal) h.is.found in
     let is : owner_of (known ++ more) ≡ Some kept = subst (λ (l : List Entry). owner_of l ≡ Some kept) same h.is.is in
     let one : Some kept ≡ Some h.owner = sym is ∙ owner_kept known more h.owner h.known_is in
     absurd (h.is.other (cc))
-read_on known more (Changed n) legal h =
-    let low : n < length (records_of known) = omega (arith, h.within, length-map known coding_of) in
+read_on known more (Changed n) legal h r =
+    let low : n < length (records_of known) = omega (arith, h.changed.within, length-map known coding_of) in
     let longer : n < length (records_of known ++ records_of more) = omega (arith, low, length-append (records_of known) (records_of more)) in
-    absurd (h.changed (ap (λ (rs : List (List ℕ)). slice_get rs n) (map-append coding_of known more)
+    absurd (h.changed.changed (ap (λ (rs : List (List ℕ)). slice_get rs n) (map-append coding_of known more)
     ∙ slice_get-get_or (records_of known ++ records_of more) n [] longer
     ∙ ap (λ (r : List ℕ). Some r) (get_or_append_left (records_of known) (records_of more) [] n low)
     ∙ sym (slice_get-get_or (records_of known) n [] low)))
-read_on known more Memory legal h = tt
-read_on known more DiskFault legal h = absurd h
-read_on known more (NotAJournal place) legal h = absurd h
-read_on known more (Spent count) legal h = absurd h
+read_on known more Memory legal h r = tt
+read_on known more DiskFault legal h r = absurd r
+read_on known more (NotAJournal place) legal h r = absurd r
+read_on known more (Spent count) legal h r = absurd r
 
 -- one more record that is the known entry's
 pub take_step : (records : List (List ℕ)) (known : List Entry) (n : ℕ) (e : Entry) → n < length known → e ≡ get_or known n e → slice_get records n ≡ Some (coding_of e)

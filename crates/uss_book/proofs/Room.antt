@@ -1,5 +1,5 @@
 -- A legal book fits its journal: what open jobs wrote after their openings is less than what is kept free for them.
-use Rattle.std.proofs.Common.{ℕ, ◌+◌, ◌*◌, ◌<◌, ◌≤◌, ◌==◌, Bool, true, false, cond, not, ◌||◌, find, List, [], ◌∷◌, ◌++◌, ◌≡◌, inl, inr, ⊎_elim, filter, length, get_or, refl, ap, sym, subst, arith, Option, Some, None, IfSome, is_some, length-append, append_assoc, append-nil}
+use Rattle.std.proofs.Common.{ℕ, ◌+◌, ◌*◌, ◌<◌, ◌≤◌, ◌==◌, Bool, true, false, cond, not, ◌||◌, find, List, [], ◌∷◌, ◌++◌, ◌≡◌, inl, inr, ⊎_elim, filter, length, get_or, refl, ap, sym, subst, ◌∙◌, arith, Option, Some, None, IfSome, is_some, length-append, append_assoc, append-nil}
 use Rattle.std.specs.Prelude.{All}
 use Rattle.std.specs.List.{sum_by}
 use Rattle.std.specs.Option.{option_or}
@@ -7,7 +7,7 @@ use Rattle.std.proofs.lemmas.Bool.{and_parts, leb-true}
 use Rattle.std.proofs.lemmas.List.Elements.{filter-append}
 use Rattle.std.proofs.lemmas.List.Folds.{list_any-append, find-append}
 use Rattle.std.proofs.lemmas.List.Filters.{sum_by-filter_both}
-use Rattle.std.proofs.lemmas.List.Sums.{sum_by-cons, sum_by_push, sum_by-le}
+use Rattle.std.proofs.lemmas.List.Sums.{sum_by-cons, sum_by-le}
 use Rattle.uss_intent.specs.Texts.{IsName, IsOvn}
 use Rattle.uss_event.specs.declared.asks.Wish.{Wish}
 use Rattle.uss_event.specs.declared.asks.Wish.TheVariants.{Put, End}
@@ -27,6 +27,8 @@ use Rattle.uss_law_book.specs.Legal.{MayFollow, MayAllFollow, IsLegal, IsDue, Ma
 use Rattle.uss_law_book.specs.Reserve.{journal_limit, need, is_reserved, reserved, ReserveCovers}
 use Rattle.uss_law_book.proofs.Entries.{trials_append, which_opening, unclosed_before, unclosed_by}
 use Rattle.uss_law_book.proofs.Kept.{opening_has, open_parts}
+use Rattle.uss_entries.specs.Tallies.{is_later_of, bytes_of}
+use Rattle.uss_entries.proofs.Counted.{bytes_grow}
 
 -- ---- the reserve covers a legal book
 
@@ -43,35 +45,36 @@ legal_covers book h = covers_from [] book covers_at_first h
 
 -- ---- sums over jobs
 
--- the entry is one that the job made after its opening
-abbrev pub made_by : ℕ → Entry → Bool
-made_by job (Enters.Owner owner) = false
-made_by job (Opened j moment ask) = false
-made_by job (TicketOpen j) = j == job
-made_by job (Pending j tag alternative previous key) = j == job
-made_by job (Held j tag ovn version owed) = j == job
-made_by job (Deciding j end) = j == job
-made_by job (Done j end) = j == job
-made_by job (TicketGone j) = j == job
-made_by job (Sent j place) = j == job
+-- the bytes of an entry's record where the entry is one of the job's after its opening
+abbrev weight : ℕ → Entry → ℕ
+weight job e = cond (is_later_of job e) (record_length e) 0
 
-abbrev pub weight : ℕ → Entry → ℕ
-weight job e = cond (made_by job e) (record_length e) 0
+weighed_first : (job : ℕ) (e : Entry) (es : List Entry) → bytes_of job (e ∷ es) ≡ weight job e + bytes_of job es
+unfolding bytes_of
+weighed_first job e es = go (is_later_of job e)
+  where
+    go : (b : Bool) → sum_by record_length (cond b (e ∷ filter (is_later_of job) es) (filter (is_later_of job) es)) ≡ cond b (record_length e) 0 + sum_by record_length (filter (is_later_of job) es)
+    go false = omega arith
+    go true = sum_by-cons record_length e (filter (is_later_of job) es)
 
--- the bytes of what a job wrote after its opening
-abbrev pub written_by : ℕ → List Entry → ℕ
-written_by job es = sum_by (weight job) es
+weighed_last : (job : ℕ) (es : List Entry) (e : Entry) → bytes_of job (es ++ e ∷ []) ≡ bytes_of job es + weight job e
+unfolding bytes_of
+weighed_last job es e = bytes_grow job es e ∙ go (is_later_of job e)
+  where
+    go : (b : Bool) → bytes_of job es + sum_by record_length (cond b (e ∷ []) []) ≡ bytes_of job es + cond b (record_length e) 0
+    go false = omega arith
+    go true = omega arith
 
-sum_two : (e : Entry) (es : List Entry) (os : List Opening) → sum_by (λ (o : Opening). written_by o.job (e ∷ es)) os ≡ sum_by (λ (o : Opening). weight o.job e) os + sum_by (λ (o : Opening). written_by o.job es) os
+sum_two : (e : Entry) (es : List Entry) (os : List Opening) → sum_by (λ (o : Opening). bytes_of o.job (e ∷ es)) os ≡ sum_by (λ (o : Opening). weight o.job e) os + sum_by (λ (o : Opening). bytes_of o.job es) os
 sum_two e es [] = refl
 sum_two e es (o ∷ os) =
     omega (
       arith,
       sum_two e es os,
-      sum_by-cons (λ (p : Opening). written_by p.job (e ∷ es)) o os,
+      sum_by-cons (λ (p : Opening). bytes_of p.job (e ∷ es)) o os,
       sum_by-cons (λ (p : Opening). weight p.job e) o os,
-      sum_by-cons (λ (p : Opening). written_by p.job es) o os,
-      sum_by-cons (weight o.job) e es,
+      sum_by-cons (λ (p : Opening). bytes_of p.job es) o os,
+      weighed_first o.job e es,
     )
 
 at_least : (f : Opening → ℕ) (os : List Opening) (o : Opening) → Has os o → f o ≤ sum_by f os
@@ -90,9 +93,9 @@ record Maker (book : List Entry) (e : Entry) : Type 0 where
   opening : Opening
   has : Has (openings book) opening
   unclosed : is_closed opening.job book ≡ false
-  made : made_by opening.job e ≡ true
+  made : is_later_of opening.job e ≡ true
 
-maker_of : (book : List Entry) (job : ℕ) (e : Entry) → is_open job book ≡ true → ((n : ℕ) → job ≡ n → made_by n e ≡ true) → Maker book e
+maker_of : (book : List Entry) (job : ℕ) (e : Entry) → is_open job book ≡ true → ((n : ℕ) → job ≡ n → is_later_of n e ≡ true) → Maker book e
 maker_of book job e h made =
     let p = open_parts book job h in
     let a = opening_has book job p.0 p.1 in
@@ -118,11 +121,11 @@ abbrev open_of : List Entry → List Opening
 open_of book = filter (λ o. not (is_closed o.job book)) (openings book)
 
 -- the reserved bytes are among those that open jobs wrote
-covered : (book es : List Entry) → sum_by record_length (filter (is_reserved book) es) ≤ sum_by (λ (o : Opening). written_by o.job es) (open_of book)
+covered : (book es : List Entry) → sum_by record_length (filter (is_reserved book) es) ≤ sum_by (λ (o : Opening). bytes_of o.job es) (open_of book)
 covered book [] = omega arith
 covered book (e ∷ es) = go (covered book es) (is_reserved book e) refl
   where
-    go : sum_by record_length (filter (is_reserved book) es) ≤ sum_by (λ (o : Opening). written_by o.job es) (open_of book) → (b : Bool) → is_reserved book e ≡ b → sum_by record_length (cond b (e ∷ filter (is_reserved book) es) (filter (is_reserved book) es)) ≤ sum_by (λ (o : Opening). written_by o.job (e ∷ es)) (open_of book)
+    go : sum_by record_length (filter (is_reserved book) es) ≤ sum_by (λ (o : Opening). bytes_of o.job es) (open_of book) → (b : Bool) → is_reserved book e ≡ b → sum_by record_length (cond b (e ∷ filter (is_reserved book) es) (filter (is_reserved book) es)) ≤ sum_by (λ (o : Opening). bytes_of o.job (e ∷ es)) (open_of book)
     go rest false r = omega (arith, rest, sum_two e es (open_of book))
     go rest true r =
         let m = maker book e r in
@@ -145,7 +148,7 @@ SmallWish (Put to priority rounds proposals) = rounds ≤ 16
 SmallWish End = Unit {0}
 
 record IsSmallJob (es : List Entry) (job : ℕ) : Type 0 where
-  bytes : written_by job es ≤ budget (is_ticket_open job es) (length (trials_of job es)) (is_some (decision_of job es))
+  bytes : bytes_of job es ≤ budget (is_ticket_open job es) (length (trials_of job es)) (is_some (decision_of job es))
   tries : length (trials_of job es) ≤ 16
 
 record IsSmall (es : List Entry) : Type 0 where
@@ -234,7 +237,7 @@ module _ (es : List Entry) (job : ℕ) (open_before : is_closed job es ≡ false
   is_now_closed : (j : ℕ) → is_closed j es ≡ true → (j == job) ≡ true → ⊥
   is_now_closed j closed same = let e : is_closed j es ≡ is_closed job es = ap (λ (n : ℕ). is_closed n es) (same_number j job same) in cc
 
-  within : (e : Entry) → MayFollow es e → is_closed job (e ∷ []) ≡ false → made_by job e ≡ true → record_length e + before ≤ after e
+  within : (e : Entry) → MayFollow es e → is_closed job (e ∷ []) ≡ false → is_later_of job e ≡ true → record_length e + before ≤ after e
   unfolding is_ticket_open trials_of decision_of is_held is_done
   within (Enters.Owner owner) m u h = cc
   within (Opened j moment ask) m u h = cc
@@ -258,9 +261,9 @@ module _ (es : List Entry) (job : ℕ) (open_before : is_closed job es ≡ false
   within (Sent j place) m u h = absurd (is_now_closed j m.due.closed h)
 
   weighs : (e : Entry) → MayFollow es e → is_closed job (e ∷ []) ≡ false → weight job e + before ≤ after e
-  weighs e m u = go (made_by job e) refl
+  weighs e m u = go (is_later_of job e) refl
     where
-      go : (b : Bool) → made_by job e ≡ b → cond b (record_length e) 0 + before ≤ after e
+      go : (b : Bool) → is_later_of job e ≡ b → cond b (record_length e) 0 + before ≤ after e
       go true h = within e m u h
       go false h = omega (arith, idle (is_ticket_open job es) (is_ticket_open job (e ∷ [])) (length (trials_of job es)) (length (trials_of job (e ∷ []))) (is_some (decision_of job es)) (is_some (decision_of job (e ∷ []))))
 
@@ -299,13 +302,13 @@ small_after es e small m =
           let was = small.jobs job before_it in
           let more = weighs es job before_it e m (unclosed_by job es (e ∷ []) u) in
           record {
-            bytes = rw (ticket_after job es (e ∷ []), tries_after job es (e ∷ []), decided_after job es (e ∷ [])) (omega (arith, was.bytes, more, sum_by_push (weight job) es e));
+            bytes = rw (ticket_after job es (e ∷ []), tries_after job es (e ∷ []), decided_after job es (e ∷ [])) (omega (arith, was.bytes, more, weighed_last job es e));
             tries = rw (tries_after job es (e ∷ [])) (few_tries es job before_it small e m was.tries);
           };
     }
 
 small_at_first : IsSmall []
-unfolding trials_of
+unfolding trials_of bytes_of
 small_at_first = record { wishes = λ o h. absurd h; jobs = λ job u. record { bytes = omega arith; tries = omega arith } }
 
 small_from : (before es : List Entry) → IsSmall before → MayAllFollow before es → IsSmall (before ++ es)
@@ -319,7 +322,7 @@ most_bytes false n true h = omega (arith, h)
 most_bytes false n false h = omega (arith, h)
 
 -- what an open job of a legal book wrote after its opening
-pub open_job_wrote : (book : List Entry) (job : ℕ) → IsLegal book → is_closed job book ≡ false → written_by job book ≤ 2230822
+pub open_job_wrote : (book : List Entry) (job : ℕ) → IsLegal book → is_closed job book ≡ false → bytes_of job book ≤ 2230822
 open_job_wrote book job h u =
     let was = (small_from [] book small_at_first h).jobs job u in
     let budgets = most_bytes (is_ticket_open job book) (length (trials_of job book)) (is_some (decision_of job book)) was.tries in
@@ -333,7 +336,7 @@ few_bytes true n false h = omega (arith, h)
 few_bytes false n true h = omega (arith, h)
 few_bytes false n false h = omega (arith, h)
 
-open_fits : (book : List Entry) → IsSmall book → (o : Opening) → Has (open_of book) o → written_by o.job book ≤ 8388608
+open_fits : (book : List Entry) → IsSmall book → (o : Opening) → Has (open_of book) o → bytes_of o.job book ≤ 8388608
 open_fits book small o h =
     let was = small.jobs o.job (not_true (is_closed o.job book) (has_passed (λ (p : Opening). not (is_closed p.job book)) (openings book) o h)) in
     omega (arith, was.bytes, few_bytes (is_ticket_open o.job book) (length (trials_of o.job book)) (is_some (decision_of o.job book)) was.tries)
@@ -344,5 +347,5 @@ legal_fits book h =
     let small = small_from [] book small_at_first h in
     let covers = legal_covers book h in
     let split = sum_by-filter_both (is_reserved book) (λ (e : Entry). not (is_reserved book e)) (λ e. refl) record_length book in
-    let most = at_most (λ (o : Opening). written_by o.job book) 8388608 (open_of book) (open_fits book small) in
+    let most = at_most (λ (o : Opening). bytes_of o.job book) 8388608 (open_of book) (open_fits book small) in
     omega (arith, covers, split, covered book book, most)

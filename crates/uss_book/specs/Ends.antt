@@ -4,9 +4,9 @@ use Rattle.std.specs.Prelude.{◌≡◌, ◌↔◌, ◌+◌, ◌≤◌, ℕ, ℤ
 use Rattle.uss_event.specs.declared.asks.FlightAsk.{FlightAsk}
 use Rattle.uss_event.specs.declared.entries.Entry.{Entry}
 use Rattle.uss_event.specs.declared.entries.Entry.TheVariants.{Opened}
-use Rattle.uss_law_book.specs.Coding.{HasCoding, record_length}
+use Rattle.uss_law_book.specs.Coding.{HasCoding, record_length, journal_length}
 use Rattle.uss_law_book.specs.Legal.{IsDue, IsLegal, is_owner}
-use Rattle.uss_law_book.specs.Reserve.{journal_limit, reserved, ReserveCovers}
+use Rattle.uss_law_book.specs.Reserve.{journal_limit, need, reserved, ReserveCovers}
 
 -- the entry opens a job
 abbrev pub opens : Entry → Bool
@@ -21,3 +21,9 @@ EachGoesOn = (book : List Entry) (e : Entry) → IsLegal book → IsDue book e �
 abbrev pub EachOpens : Type 0
 EachOpens = (book : List Entry) (job : ℕ) (moment : ℤ) (ask : FlightAsk) → IsLegal book → IsDue book (Opened job moment ask)
     → ReserveCovers (book ++ Opened job moment ask ∷ []) ↔ (reserved book + record_length (Opened job moment ask) + 8388608 ≤ journal_limit)
+
+-- there is room for a job's opening where the journal's bytes, those that are kept free, its record and what is then to be kept free for it
+-- don't exceed the journal's limit together
+abbrev pub EachOpensByUsed : Type 0
+EachOpensByUsed = (book : List Entry) (job : ℕ) (moment : ℤ) (ask : FlightAsk) → IsLegal book → IsDue book (Opened job moment ask)
+    → journal_length book + need book + record_length (Opened job moment ask) + 8388608 ≤ journal_limit → ReserveCovers (book ++ Opened job moment ask ∷ [])

@@ -1,5 +1,5 @@
 -- The answers of a book, each with its cause. This project's own.
-use Rattle.std.specs.Prelude.{◌≡◌, ◌⊎◌, ℕ, List, [], ◌∷◌, ◌++◌, Some, None, Result, Ok, Err}
+use Rattle.std.specs.Prelude.{◌≡◌, ◌⊎◌, ℕ, List, [], ◌∷◌, ◌++◌, Option, Some, None, Result, Ok, Err}
 use Rattle.uss_cause.specs.Cause.{Rose}
 use Rattle.uss_event.specs.declared.entries.Owner.{Owner}
 use Rattle.uss_event.specs.declared.entries.Entry.{Entry}
@@ -13,6 +13,16 @@ use Rattle.uss_book.specs.declared.refusal.BookFault.TheVariants.{DiskFault, Not
 use Rattle.uss_book.specs.declared.refusal.BookRefusal.{BookRefusal}
 use Rattle.uss_entries.specs.Known.{Known}
 use Rattle.uss_book.specs.Book.{BookView, IsBadEntry, IsOtherOwner}
+
+-- the number under which a refusal is printed; want of memory has none
+abbrev pub number_of : BookFault → Option ℕ
+number_of DiskFault = Some 141
+number_of (NotAJournal place) = Some 143
+number_of (Spent count) = Some 144
+number_of (BadEntry n) = Some 151
+number_of (OtherOwner kept) = Some 152
+number_of (Changed n) = Some 154
+number_of Memory = None
 
 -- an entry that was entered: it is the last
 pub record Entered {D : Type 0} (old : BookView D) (e : Entry) (new : BookView D) : Type 0 where

@@ -4,6 +4,7 @@ use Rattle.uss_cause.specs.Cause.{Rose}
 use Rattle.uss_event.specs.declared.entries.Owner.{Owner}
 use Rattle.uss_event.specs.declared.entries.Entry.{Entry}
 use Rattle.uss_law_book.specs.Lists.{owner_of}
+use Rattle.uss_law_book.specs.Legal.{IsLegal}
 use Rattle.uss_book.specs.declared.refusal.BookFault.{BookFault}
 use Rattle.uss_book.specs.declared.refusal.BookFault.TheVariants.{DiskFault, NotAJournal, Spent, BadEntry, OtherOwner, Changed, Memory}
 use Rattle.uss_book.specs.Book.{BookView, IsBadEntry, IsOtherOwner, IsChanged, records_of}
@@ -27,25 +28,35 @@ pub record AreAnothers (entries known : List Entry) : Type 0 where
   pub kept_is : owner_of entries ≡ Some kept
   pub differ : kept ≡ owner → ⊥
 
--- why records aren't those of a book that goes on from the known entries
-abbrev pub RereadBy : (known : List Entry) (records : List (List ℕ)) (fault : BookFault) → Type 0
-RereadBy known records (BadEntry n) = IsBadEntry records n
-RereadBy known records (OtherOwner kept) = IsOther known kept records
-RereadBy known records (Changed n) = IsChanged known n records
-RereadBy known records Memory = Unit {0}
-RereadBy known records DiskFault = ⊥
-RereadBy known records (NotAJournal place) = ⊥
-RereadBy known records (Spent count) = ⊥
+-- the records are those of a legal book, which isn't another owner's, and the record with number n is the first that isn't that of the
+-- known entry with this number, or isn't there
+pub record IsReadDifferently (known : List Entry) (n : ℕ) (records : List (List ℕ)) : Type 0 where
+  pub entries : List Entry
+  pub legal : IsLegal entries
+  pub found : records_of entries ≡ records
+  pub own : AreAnothers entries known → ⊥
+  pub changed : IsChanged known n records
 
--- where 151, 152 and 154 come: by the records that were read, which aren't those of a book that goes on from the known entries
+-- where 151, 152 and 154 come: by the records that were read, which aren't those of a book that goes on from the known entries. 151 comes
+-- before the other two, of which the records are those of a legal book, and 152 before 154.
 abbrev pub IsByRecords : (known : List Entry) (records : List (List ℕ)) (fault : BookFault) → Type 0
 IsByRecords known records (BadEntry n) = IsBadEntry records n
 IsByRecords known records (OtherOwner kept) = IsOther known kept records
-IsByRecords known records (Changed n) = IsChanged known n records
+IsByRecords known records (Changed n) = IsReadDifferently known n records
 IsByRecords known records Memory = Unit {0}
 IsByRecords known records DiskFault = Unit {0}
 IsByRecords known records (NotAJournal place) = Unit {0}
 IsByRecords known records (Spent count) = Unit {0}
+
+-- the refusal is one of those to which reading the records can come: 151, 152, 154 or want of memory
+abbrev pub IsOfReading : BookFault → Type 0
+IsOfReading (BadEntry n) = Unit {0}
+IsOfReading (OtherOwner kept) = Unit {0}
+IsOfReading (Changed n) = Unit {0}
+IsOfReading Memory = Unit {0}
+IsOfReading DiskFault = ⊥
+IsOfReading (NotAJournal place) = ⊥
+IsOfReading (Spent count) = ⊥
 
 -- by which count a book is spent after its journal refused to be mounted again
 abbrev pub after_refusal : BookFault → Option ℕ → ℕ → Option ℕ

@@ -1,4 +1,4 @@
-ghost use Rattle.std.specs.Prelude.{◌≡◌, ◌↔◌, ◌≢◌, ◌≤◌, ◌⊎◌, ◌∷◌, ◌++◌, [], List, ℕ, length, nat_le, find, Some, None, IsTrue, IfOk, IfErr, OnOk, MatchResult, slice_get};
+ghost use Rattle.std.specs.Prelude.{◌≡◌, ◌↔◌, ◌≢◌, ◌≤◌, ◌⊎◌, ◌∷◌, ◌++◌, [], List, ℕ, length, nat_le, find, Some, None, IsTrue, IfOk, IfErr, OnOk, MatchResult, slice_get, is_some};
 ghost use Rattle.std.specs.List.{last_or};
 ghost use Rattle.std.specs.Option.{option_copied, option_and_then, option_map};
 ghost use Rattle.uss_event.specs.declared.entries.Entry.{Entry};
@@ -160,6 +160,8 @@ impl<D: Disk> Book<D> {
             (λ r. RefusedBy owner (bytes_of (D.reads disk)) r.refusal) }
         ensures durable { D.is_honest disk → IfOk result (λ b. (image : List ℕ) → D.may_leave b.disk image → StandsForBook b.entries image) }
 
+        // The file of a book that was there stays as it was.
+        ensures stays { D.is_honest disk → IfOk result (λ b. StandsForBook b.entries (bytes_of (D.reads disk)) → bytes_of (D.reads b.disk) ≡ bytes_of (D.reads disk)) }
         ensures untouched { D.is_honest disk → IfErr result (λ r. IsLeft (bytes_of (D.reads disk)) (bytes_of (D.reads r.back)) r.refusal) }
 
         // A crash at any moment of it leaves what it could have left before, or what stands for the same; or, where that is no record,
@@ -333,14 +335,16 @@ impl<D: Disk> Book<D> {
 
     /// The job's attempt with this number among the job's, from 0, the oldest first. Takes no memory.
     pub fn attempt_at(&self, job: u64, number: usize) -> Option<&Entry>
-        ensures { option_and_then trial_in (option_copied result) ≡ slice_get (trials_of job self.now.entries) number }
+        ensures says { option_and_then trial_in (option_copied result) ≡ slice_get (trials_of job self.now.entries) number }
+        ensures found { is_some result ≡ is_some (slice_get (trials_of job self.now.entries) number) }
     {
         self.kept.attempt_at(job, number)
     }
 
     /// The job's last attempt. Takes no memory.
     pub fn last_attempt(&self, job: u64) -> Option<&Entry>
-        ensures { option_and_then trial_in (option_copied result) ≡ last_or None (trials_of job self.now.entries) }
+        ensures says { option_and_then trial_in (option_copied result) ≡ last_or None (trials_of job self.now.entries) }
+        ensures found { is_some result ≡ is_some (last_or None (trials_of job self.now.entries)) }
     {
         self.kept.last_attempt(job)
     }

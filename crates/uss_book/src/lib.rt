@@ -3,17 +3,23 @@
 
 mod append;
 mod book;
+#[cfg(test)]
+mod fixtures;
 mod judge;
 mod laws;
 mod load;
 mod owner;
 mod readers;
 mod refusal;
+#[cfg(test)]
+mod remounts;
 mod reread;
 mod start;
 mod tells;
 #[cfg(test)]
 mod tests;
+#[cfg(test)]
+mod turning;
 mod viewed;
 
 pub use book::Book;

@@ -12,7 +12,8 @@ pub enum BookFault {
     DiskFault,
     /// 143: the file is no journal, by this place.
     NotAJournal(u64),
-    /// 144: the book answered 141 and wasn't mounted again since. The number is its disk's count of faults then.
+    /// 144: the book answered 141, or a remount read other records than its own or lacked the memory to compare them, and it wasn't mounted
+    /// again since. The number is its disk's count of faults then.
     Spent(u64),
     /// 151: the record with this number, from 0, isn't the coding of an entry, or of one that may follow those before it.
     BadEntry(u64),
@@ -22,6 +23,26 @@ pub enum BookFault {
     Changed(u64),
     /// Memory is wanting.
     Memory,
+}
+
+impl BookFault {
+    ghost use Rattle.std.specs.Prelude.{◌≡◌};
+    ghost use Rattle.uss_book.specs.Refusal.{number_of};
+
+    /// The number under which the refusal is printed: 141, 143, 144, 151, 152 or 154, none for want of memory.
+    pub fn number(&self) -> Option<u16>
+        ensures { result ≡ number_of self.now }
+    {
+        match self {
+            BookFault::DiskFault => Some(141),
+            BookFault::NotAJournal(_) => Some(143),
+            BookFault::Spent(_) => Some(144),
+            BookFault::BadEntry(_) => Some(151),
+            BookFault::OtherOwner(_) => Some(152),
+            BookFault::Changed(_) => Some(154),
+            BookFault::Memory => None,
+        }
+    }
 }
 
 impl From<AllocError> for BookFault {

@@ -7,7 +7,7 @@ ghost use Rattle.uss_law_book.specs.Lists.{owner_of};
 ghost use Rattle.uss_event.specs.declared.entries.Owner.{Owner};
 ghost use Rattle.uss_coding.specs.Coding.{coding_of};
 ghost use Rattle.uss_book.specs.Book.{records_of, IsChanged};
-ghost use Rattle.uss_book.specs.Reread.{AreAnothers, BeginsWith, RereadBy, after_refusal, apart};
+ghost use Rattle.uss_book.specs.Reread.{AreAnothers, BeginsWith, IsByRecords, IsOfReading, after_refusal, apart};
 
 use crate::BookFault;
 use crate::judge::entries_of;
@@ -78,7 +78,8 @@ pub(crate) fn reread<D: Disk>(
     ensures legal { IfOk result (λ k. IsLegal k.entries) }
     ensures found { IfOk result (λ k. records_of k.entries ≡ journal.now.records) }
     ensures begins { IfOk result (λ k. BeginsWith k.entries known.now) }
-    ensures refused { IfErr result (RereadBy known.now journal.now.records) }
+    ensures refused { IfErr result (IsByRecords known.now journal.now.records) }
+    ensures alone { IfErr result IsOfReading }
 {
     let kept = entries_of(alloc, journal)?;
     if are_anothers(kept.as_slice(), known) {

@@ -1,158 +1,16 @@
 // The book on a disk in memory: mounted by records, and after a stop at each call. A row names its records, and each helper answers
 // whether what it saw is as it should be.
-ghost use Rattle.std.specs.Prelude.{◌≤◌, length, IfOk};
-ghost use Rattle.uss_law_book.specs.Coding.{HasCoding};
-
-use crate::{Book, BookFault, BookRefusal, view};
+use crate::fixtures::{
+    Coding, Got, add, bytes_of, entry_of, file_of, got_by, kept, mount, outcome_of, refused,
+};
+use crate::{Book, view};
 use std::alloc::{AllocError, Global};
 use std::process::Abort;
 use std::test::Fail;
 use uss_coding::read;
 use uss_disk::{Act, Call, Disk, MemoryDisk};
-use uss_event::{Entry, Owner};
+use uss_event::{Entry, Pair};
 use uss_legal::Tells;
-
-// A record of a journal.
-#[derive(Clone, Copy)]
-enum Coding {
-    Owner,
-    OtherNumber,
-    OtherName,
-    // An end of flight 7.
-    End,
-    // A plan of flight 7, of two rounds, and another one.
-    Plan,
-    Again,
-    Ticket,
-    // The first attempt, the second, and the record of the first, which two are told of.
-    Trial,
-    Further,
-    Held,
-    // The second of the two was told.
-    Sent,
-    // No coding: a byte too many, and none.
-    Long,
-    Empty,
-}
-
-// The bytes were made apart from this program.
-fn bytes_of(coding: Coding) -> &'static [u8] {
-    match coding {
-        Coding::Owner => b"\x01\0\0\0\x07\0\0\0\x03uss\0\0\0\x0dhttp://u.test\0\0\0\x01\0\x05",
-        Coding::OtherNumber => {
-            b"\x01\0\0\0\x08\0\0\0\x03uss\0\0\0\x0dhttp://u.test\0\0\0\x01\0\x05"
-        }
-        Coding::OtherName => b"\x01\0\0\0\x07\0\0\0\x03usr\0\0\0\x0dhttp://u.test\0\0\0\x01\0\x05",
-        Coding::End => {
-            b"\x02\0\0\0\0\0\0\0\x01\x0d#L\xcfRC\0\0\0\0\0\0\0\0\0\x07\0\0\0\0\0\0\0\x01\x02"
-        }
-        Coding::Plan => {
-            b"\x02\0\0\0\0\0\0\0\x01\x0d#L\xcfRC\0\0\0\0\0\0\0\0\0\x07\0\0\0\0\0\0\0\x02\x01\x01\0\x05\x02\x01\x01\0\0\0\x03\0\0\0\0\0\0\0\0\0\0\0\0\0\0\0\0\0\0\0\0\0\0\0\x0a\0\0\0\0\0\0\0\0\xff\xff\xff\xff\x94\xb6.\0\xff\xff\xff\xff\xff\xff\xff\xfb\xff\xff\xff\xff\xff\xff\xff\xff\0\0\0\0\0\x01\xd4\xc0\x0d#L\xcfRC\0\0\x0d#L\xcfRC\0\x01\0"
-        }
-        Coding::Again => {
-            b"\x02\0\0\0\0\0\0\0\x02\x0d#L\xcfRC\0\0\0\0\0\0\0\0\0\x07\0\0\0\0\0\0\0\x03\x01\x01\0\x05\x02\x01\x01\0\0\0\x03\0\0\0\0\0\0\0\0\0\0\0\0\0\0\0\0\0\0\0\0\0\0\0\x0a\0\0\0\0\0\0\0\0\xff\xff\xff\xff\x94\xb6.\0\xff\xff\xff\xff\xff\xff\xff\xfb\xff\xff\xff\xff\xff\xff\xff\xff\0\0\0\0\0\x01\xd4\xc0\x0d#L\xcfRC\0\0\x0d#L\xcfRC\0\x01\0"
-        }
-        Coding::Ticket => b"\x03\0\0\0\0\0\0\0\x01",
-        Coding::Trial => b"\x04\0\0\0\0\0\0\0\x01\0\0\0\0\0\0\0\x01\0\0\0\0\0\0",
-        Coding::Further => b"\x04\0\0\0\0\0\0\0\x01\0\0\0\0\0\0\0\x02\0\0\0\0\0\0",
-        Coding::Held => {
-            b"\x05\0\0\0\0\0\0\0\x01\0\0\0\0\0\0\0\x01\0\0\0\x14ovn-0000000000000001\0\0\0\x01\0\0\0\x02\0\0\0\x0dhttp://b.test\0\0\0\x01\0\0\0\0\0\0\0\0\0\0\0\x07\0\0\0\0\0\0\0\x03\0\0\0\x0dhttp://c.test\0\0\0\x01\0\0\0\0\0\0\0\0\0\0\0\x08\0\0\0\0\0\0\0\x03"
-        }
-        Coding::Sent => b"\x09\0\0\0\0\0\0\0\x01\0\0\0\x01",
-        Coding::Long => b"\x03\0\0\0\0\0\0\0\x01\0",
-        Coding::Empty => b"",
-    }
-}
-
-// A journal of these records.
-fn file_of(alloc: Global, records: &[Coding]) -> Result<Vec<u8>, AllocError> {
-    let mut file = Vec::from_slice(alloc, b"USSJ0001")?;
-    for coding in records {
-        let record = bytes_of(*coding);
-        file.push(1)?;
-        file.extend_from_slice(&((record.len() % 65536) as u32).to_be_bytes())?;
-        file.extend_from_slice(record)?;
-    }
-    file.push(0)?;
-    Ok(file)
-}
-
-fn entry_of(rt: &impl Abort, alloc: Global, coding: Coding) -> Result<Entry, AllocError>
-    ensures { IfOk result HasCoding }
-{
-    match read(alloc, bytes_of(coding))? {
-        Some(entry) => Ok(entry),
-        None => rt.abort(),
-    }
-}
-
-fn owner_of(rt: &impl Abort, alloc: Global) -> Result<Owner, AllocError>
-    ensures { IfOk result (λ o. length o.base ≤ 256) }
-{
-    let Entry::Owner(owner) = entry_of(rt, alloc, Coding::Owner)? else {
-        rt.abort();
-    };
-    if owner.base.as_bytes().len() > 256 {
-        rt.abort();
-    }
-    Ok(owner)
-}
-
-// Mounts by the owner this file, on a disk of which the calls with these numbers fail.
-fn mount(
-    rt: &impl Abort,
-    alloc: Global,
-    file: &[u8],
-    failing: Vec<u64>,
-) -> Result<Result<Book<MemoryDisk>, BookRefusal<MemoryDisk>>, AllocError> {
-    let owner = owner_of(rt, alloc)?;
-    let disk = MemoryDisk::with_bytes(alloc, file, failing)?;
-    Ok(Book::mount(alloc, disk, owner))
-}
-
-// How many entries a book has, or the number of a refusal and what it carries.
-#[derive(Clone, Copy, PartialEq, Eq)]
-struct Got {
-    entries: u64,
-    number: u16,
-    carries: u64,
-}
-
-fn kept(entries: u64) -> Got {
-    Got {
-        entries,
-        number: 0,
-        carries: 0,
-    }
-}
-
-fn refused(number: u16, carries: u64) -> Got {
-    Got {
-        entries: 0,
-        number,
-        carries,
-    }
-}
-
-fn got_by(fault: &BookFault) -> Got {
-    match fault {
-        BookFault::DiskFault => refused(141, 0),
-        BookFault::NotAJournal(place) => refused(143, *place),
-        BookFault::Spent(count) => refused(144, *count),
-        BookFault::BadEntry(number) => refused(151, *number),
-        BookFault::OtherOwner(kept) => refused(152, u64::from(kept.number)),
-        BookFault::Changed(number) => refused(154, *number),
-        BookFault::Memory => refused(0, 0),
-    }
-}
-
-// What a mount answered, and the disk after it.
-fn outcome_of<D: Disk>(answer: Result<Book<D>, BookRefusal<D>>) -> (Got, D) {
-    match answer {
-        Ok(book) => (kept(book.len()), book.release()),
-        Err(why) => (got_by(&why.refusal), why.back),
-    }
-}
 
 // What a mount of these records answers: how many entries there are, or the number of a refusal and what it carries.
 const JUDGED: [(&[Coding], u64, u16, u64); 18] = [
@@ -216,27 +74,64 @@ const JUDGED: [(&[Coding], u64, u16, u64); 18] = [
     (&[Coding::Owner, Coding::Empty], 0, 151, 1),
 ];
 
-// Whether a mount by the owner answers this, and a refusal leaves the file as it was.
-fn is_judged(
+// What a file that is no journal has, and the place by which it isn't.
+const NO_JOURNAL: [(&[u8], u64); 3] = [
+    (b"notajournal!", 0),
+    (b"USSJ0002\x01\0\0\0\x01a\0", 7),
+    // A record that runs past the end of the file.
+    (b"USSJ0001\x01\0\0\0\x03old", 8),
+];
+
+// Whether a mount of the file by the owner answers this, and a refusal leaves the file as it was.
+fn is_answered(
     rt: &impl Abort,
     alloc: Global,
-    records: &[Coding],
+    file: &[u8],
     wanted: Got,
 ) -> Result<bool, AllocError> {
-    let file = file_of(alloc, records)?;
-    let (found, disk) = outcome_of(mount(rt, alloc, &file, Vec::new(alloc))?);
-    Ok(found == wanted && (wanted.number == 0 || disk.bytes() == file.as_slice()))
+    let (found, disk) = outcome_of(mount(rt, alloc, file, Vec::new(alloc))?);
+    Ok(found == wanted && (wanted.number == 0 || disk.bytes() == file))
+}
+
+// How many entries a view has of a file, or the refusal.
+fn viewed(alloc: Global, file: &[u8]) -> Result<Got, AllocError> {
+    let disk = MemoryDisk::with_bytes(alloc, file, Vec::new(alloc))?;
+    match view(alloc, disk) {
+        Ok((entries, _)) => Ok(kept(entries.len() as u64)),
+        Err(why) => Ok(got_by(&why.refusal)),
+    }
+}
+
+// What a view of these records answers where a mount answers this: another owner's book is viewed too, and of no record there is no
+// entry.
+fn wanted_of_view(records: &[Coding], mounted: Got) -> Got {
+    if mounted.number == 0 || mounted.number == 152 {
+        kept(records.len() as u64)
+    } else {
+        mounted
+    }
 }
 
 #[test]
 fn records_are_judged_one_after_another(rt: HostRuntime) -> Result<(), Fail> {
     for (records, entries, number, carries) in &JUDGED {
+        let file = file_of(rt.alloc(), records)?;
         let wanted = Got {
             entries: *entries,
             number: *number,
             carries: *carries,
         };
-        assert!(rt; is_judged(&rt, rt.alloc(), records, wanted)?);
+        assert!(rt; is_answered(&rt, rt.alloc(), &file, wanted)?);
+        assert!(rt; viewed(rt.alloc(), &file)? == wanted_of_view(records, wanted));
+    }
+    Ok(())
+}
+
+#[test]
+fn other_files_are_no_journals(rt: HostRuntime) -> Result<(), Fail> {
+    for (file, place) in &NO_JOURNAL {
+        assert!(rt; is_answered(&rt, rt.alloc(), file, refused(143, *place))?);
+        assert!(rt; viewed(rt.alloc(), file)? == refused(143, *place));
     }
     Ok(())
 }
@@ -255,8 +150,8 @@ fn put(file: &mut Vec<u8>, at: u64, bytes: &[u8]) -> Result<(), AllocError> {
 }
 
 // The file after these calls. A failed call wrote nothing.
-fn left(alloc: Global, calls: &[Call]) -> Result<Vec<u8>, AllocError> {
-    let mut file = Vec::new(alloc);
+fn left(alloc: Global, first: &[u8], calls: &[Call]) -> Result<Vec<u8>, AllocError> {
+    let mut file = Vec::from_slice(alloc, first)?;
     for call in calls {
         if let Act::Write { at, bytes } = &call.act {
             if call.done {
@@ -267,17 +162,28 @@ fn left(alloc: Global, calls: &[Call]) -> Result<Vec<u8>, AllocError> {
     Ok(file)
 }
 
-// How many entries a mount finds after these calls, or the refusal.
-fn found_after(rt: &impl Abort, alloc: Global, calls: &[Call]) -> Result<Got, AllocError> {
-    let file = left(alloc, calls)?;
+// How many entries a mount finds in a file after these calls, or the refusal.
+fn found_after(
+    rt: &impl Abort,
+    alloc: Global,
+    first: &[u8],
+    calls: &[Call],
+) -> Result<Got, AllocError> {
+    let file = left(alloc, first, calls)?;
     Ok(outcome_of(mount(rt, alloc, &file, Vec::new(alloc))?).0)
 }
 
-// Whether a new book is begun, or its call with this number fails, and a mount after each stop finds one entry.
-fn is_begun(rt: &impl Abort, alloc: Global, number: u64) -> Result<bool, AllocError> {
-    let (found, disk) = outcome_of(mount(rt, alloc, b"", vec![in alloc; number]?)?);
+// Whether a mount of the file finds so many entries, or its call with this number fails, and a mount after each stop finds as many.
+fn is_mounted(
+    rt: &impl Abort,
+    alloc: Global,
+    file: &[u8],
+    number: u64,
+    entries: u64,
+) -> Result<bool, AllocError> {
+    let (found, disk) = outcome_of(mount(rt, alloc, file, vec![in alloc; number]?)?);
     let wanted = if number == 0 {
-        kept(1)
+        kept(entries)
     } else {
         refused(141, 0)
     };
@@ -286,23 +192,29 @@ fn is_begun(rt: &impl Abort, alloc: Global, number: u64) -> Result<bool, AllocEr
     }
     let calls = disk.calls();
     for stop in 0..calls.len() {
-        if found_after(rt, alloc, &calls[..stop])? != kept(1) {
+        if found_after(rt, alloc, file, &calls[..stop])? != kept(entries) {
             return Ok(false);
         }
     }
-    Ok(found_after(rt, alloc, calls)? == kept(1))
+    Ok(found_after(rt, alloc, file, calls)? == kept(entries))
 }
 
 #[test]
-fn a_new_book_is_begun_whatever_call_fails_or_stops(rt: HostRuntime) -> Result<(), Fail> {
-    // The journal is made by four calls, and its first entry is appended by four.
+fn a_book_is_mounted_whatever_call_fails_or_stops(rt: HostRuntime) -> Result<(), Fail> {
+    // The journal of a new book is made by four calls, and its first entry is appended by four.
     for number in 0..9 {
-        assert!(rt; is_begun(&rt, rt.alloc(), number)?);
+        assert!(rt; is_mounted(&rt, rt.alloc(), b"", number, 1)?);
+    }
+    // A book that is there is read by three.
+    let records = [Coding::Owner, Coding::Plan, Coding::Ticket, Coding::Trial];
+    let file = file_of(rt.alloc(), &records)?;
+    for number in 0..4 {
+        assert!(rt; is_mounted(&rt, rt.alloc(), &file, number, 4)?);
     }
     Ok(())
 }
 
-// Enters this, where it may follow.
+// Enters this, if it may follow, and tells whether it may.
 fn enter<D: Disk>(
     rt: &impl Abort,
     alloc: Global,
@@ -316,38 +228,108 @@ fn enter<D: Disk>(
     Ok(book.enter(entry).is_ok())
 }
 
-// A new book with a plan, a ticket and an attempt, where each was entered, and the room was kept.
-fn entered(rt: &impl Abort, alloc: Global) -> Result<MemoryDisk, AllocError> {
-    let Ok(mut book) = mount(rt, alloc, b"", Vec::new(alloc))? else {
-        rt.abort();
-    };
-    let new = book.used();
-    let done = enter(rt, alloc, &mut book, Coding::Plan)?
-        && enter(rt, alloc, &mut book, Coding::Ticket)?
-        && enter(rt, alloc, &mut book, Coding::Trial)?
-        && !enter(rt, alloc, &mut book, Coding::Again)?;
-    if !done || new != 49 || book.used() != 221 || book.need() != 8_388_608 {
-        rt.abort();
+// Whether a plan, a ticket and an attempt are entered, no second plan of the flight may follow, and the room is kept.
+fn enter_three<D: Disk>(
+    rt: &impl Abort,
+    alloc: Global,
+    book: &mut Book<D>,
+) -> Result<bool, AllocError> {
+    let new = book.used() == 49;
+    let plan = enter(rt, alloc, book, Coding::Plan)?;
+    let ticket = enter(rt, alloc, book, Coding::Ticket)?;
+    let trial = enter(rt, alloc, book, Coding::Trial)?;
+    let again = enter(rt, alloc, book, Coding::Again)?;
+    let room = book.used() == 221 && book.need() == 8_388_608;
+    Ok(new && plan && ticket && trial && !again && room)
+}
+
+// A new book in which these were entered.
+fn entered(rt: &impl Abort, alloc: Global) -> Result<Option<Book<MemoryDisk>>, AllocError> {
+    match mount(rt, alloc, b"", Vec::new(alloc))? {
+        Ok(mut book) => match enter_three(rt, alloc, &mut book)? {
+            true => Ok(Some(book)),
+            false => Ok(None),
+        },
+        Err(_) => Ok(None),
     }
-    Ok(book.release())
+}
+
+// Whether a mount after each stop finds the entries before the last that was begun, or with it. A new book is made by eight calls, and
+// each entry is entered by four.
+fn are_found(rt: &impl Abort, alloc: Global, calls: &[Call]) -> Result<bool, AllocError> {
+    for stop in 8..calls.len() {
+        let known = (stop as u64 / 4).saturating_sub(1);
+        let found = found_after(rt, alloc, b"", &calls[..stop])?;
+        let next = stop % 4 != 0 && found == kept(known.saturating_add(1));
+        if found != kept(known) && !next {
+            return Ok(false);
+        }
+    }
+    Ok(calls.len() == 20 && found_after(rt, alloc, b"", calls)? == kept(4))
 }
 
 #[test]
 fn a_stop_at_any_call_leaves_the_book_before_it_or_with_the_one_entry(
     rt: HostRuntime,
 ) -> Result<(), Fail> {
-    let disk = entered(&rt, rt.alloc())?;
-    let calls = disk.calls();
-    assert_eq!(rt; calls.len(), 20);
-    // A new book is made by eight calls, and each entry is entered by four.
-    for stop in 8..calls.len() {
-        let known = (stop as u64 / 4).saturating_sub(1);
-        let found = found_after(&rt, rt.alloc(), &calls[..stop])?;
-        assert!(rt;
-            found == kept(known) || (stop % 4 != 0 && found == kept(known.saturating_add(1)))
-        );
+    let Some(book) = entered(&rt, rt.alloc())? else {
+        rt.abort();
+    };
+    let disk = book.release();
+    assert!(rt; are_found(&rt, rt.alloc(), disk.calls())?);
+    Ok(())
+}
+
+// The opening of the job with this number, a plan of the flight with this number.
+fn opening_of(alloc: Global, number: u8) -> Result<Vec<u8>, AllocError> {
+    let mut record = Vec::from_slice(alloc, bytes_of(Coding::Plan))?;
+    put(&mut record, 8, &[number])?;
+    put(&mut record, 24, &[number])?;
+    Ok(record)
+}
+
+// A journal of so many openings after whose book it is.
+fn opened(alloc: Global, count: u8) -> Result<Vec<u8>, AllocError> {
+    let mut file = Vec::from_slice(alloc, b"USSJ0001")?;
+    add(&mut file, bytes_of(Coding::Owner))?;
+    for number in 0..count {
+        add(&mut file, &opening_of(alloc, number.saturating_add(1))?)?;
     }
-    assert!(rt; found_after(&rt, rt.alloc(), calls)? == kept(4));
+    file.push(0)?;
+    Ok(file)
+}
+
+// Whether a book of 63 open jobs keeps 63 times 8 MiB free, and has no room for the next: another job's opening.
+fn is_full<D: Disk>(rt: &impl Abort, alloc: Global, book: &Book<D>) -> Result<bool, AllocError> {
+    let room = book.len() == 64 && book.used() == 8_239 && book.need() == 528_482_304;
+    let next = opening_of(alloc, 64)?;
+    match read(alloc, &next)? {
+        Some(next) => Ok(room && book.live_job(63) == Some(63) && !book.may_follow(&next)),
+        None => rt.abort(),
+    }
+}
+
+// A book of so many open jobs.
+fn with_open(
+    rt: &impl Abort,
+    alloc: Global,
+    count: u8,
+) -> Result<Option<Book<MemoryDisk>>, AllocError> {
+    let file = opened(alloc, count)?;
+    match mount(rt, alloc, &file, Vec::new(alloc))? {
+        Ok(book) => Ok(Some(book)),
+        Err(_) => Ok(None),
+    }
+}
+
+#[test]
+fn at_most_63_jobs_are_open(rt: HostRuntime) -> Result<(), Fail> {
+    let Some(book) = with_open(&rt, rt.alloc(), 63)? else {
+        rt.abort();
+    };
+    assert!(rt; is_full(&rt, rt.alloc(), &book)?);
+    let file = opened(rt.alloc(), 64)?;
+    assert!(rt; is_answered(&rt, rt.alloc(), &file, refused(151, 64))?);
     Ok(())
 }
 
@@ -356,6 +338,8 @@ struct Telling {
     records: &'static [Coding],
     live: Option<u64>,
     last: Option<(u64, u64)>,
+    // The OVN of what is held of it, or no byte.
+    held: &'static [u8],
     attempts: usize,
     owns: bool,
     second: u64,
@@ -365,11 +349,12 @@ struct Telling {
     untold_second: Option<u32>,
 }
 
-const TOLD: [Telling; 6] = [
+const TOLD: [Telling; 8] = [
     Telling {
         records: &[Coding::Owner],
         live: None,
         last: None,
+        held: b"",
         attempts: 0,
         owns: false,
         second: 0,
@@ -382,6 +367,7 @@ const TOLD: [Telling; 6] = [
         records: &[Coding::Owner, Coding::Plan],
         live: Some(1),
         last: Some((2, 1)),
+        held: b"",
         attempts: 0,
         owns: false,
         second: 0,
@@ -394,6 +380,7 @@ const TOLD: [Telling; 6] = [
         records: &[Coding::Owner, Coding::Plan, Coding::Ticket, Coding::Trial],
         live: Some(1),
         last: Some((2, 1)),
+        held: b"",
         attempts: 1,
         owns: true,
         second: 0,
@@ -412,6 +399,7 @@ const TOLD: [Telling; 6] = [
         ],
         live: Some(1),
         last: Some((2, 1)),
+        held: b"",
         attempts: 2,
         owns: true,
         second: 2,
@@ -430,6 +418,7 @@ const TOLD: [Telling; 6] = [
         ],
         live: None,
         last: Some((2, 1)),
+        held: b"ovn-0000000000000001",
         attempts: 1,
         owns: true,
         second: 0,
@@ -449,6 +438,7 @@ const TOLD: [Telling; 6] = [
         ],
         live: None,
         last: Some((2, 1)),
+        held: b"ovn-0000000000000001",
         attempts: 1,
         owns: true,
         second: 0,
@@ -456,6 +446,47 @@ const TOLD: [Telling; 6] = [
         owed: 2,
         untold: Some(0),
         untold_second: None,
+    },
+    Telling {
+        records: &[
+            Coding::Owner,
+            Coding::Plan,
+            Coding::Ticket,
+            Coding::Trial,
+            Coding::Held,
+            Coding::Next,
+        ],
+        live: Some(2),
+        last: Some((3, 2)),
+        held: b"ovn-0000000000000001",
+        attempts: 1,
+        owns: true,
+        second: 0,
+        latest: 1,
+        owed: 2,
+        untold: Some(0),
+        untold_second: Some(1),
+    },
+    Telling {
+        records: &[
+            Coding::Owner,
+            Coding::Plan,
+            Coding::Ticket,
+            Coding::Trial,
+            Coding::Held,
+            Coding::Next,
+            Coding::Ended,
+        ],
+        live: None,
+        last: Some((3, 2)),
+        held: b"",
+        attempts: 1,
+        owns: true,
+        second: 0,
+        latest: 1,
+        owed: 2,
+        untold: Some(0),
+        untold_second: Some(1),
     },
 ];
 
@@ -466,8 +497,23 @@ fn tag_of(attempt: Option<&Entry>) -> u64 {
     }
 }
 
+// Whether what is held has this OVN, or nothing is where there is none.
+fn is_of(held: Option<&Pair>, ovn: &[u8]) -> bool {
+    match held {
+        Some(pair) => match &pair.reference().ovn {
+            Some(found) => found.as_bytes() == ovn,
+            None => false,
+        },
+        None => ovn.is_empty(),
+    }
+}
+
 fn tells_of_the_flight<D: Disk>(book: &Book<D>, row: &Telling) -> bool {
-    book.live_job(7) == row.live && book.last(7) == row.last && book.open_job(8).is_none()
+    book.live_job(7) == row.live
+        && book.last(7) == row.last
+        && is_of(book.held(7), row.held)
+        && book.held(8).is_none()
+        && book.open_job(8).is_none()
 }
 
 fn tells_of_the_attempts<D: Disk>(book: &Book<D>, row: &Telling) -> bool {
@@ -485,26 +531,23 @@ fn tells_of_the_owed<D: Disk>(book: &Book<D>, row: &Telling) -> bool {
         && book.untold(1, 2).is_none()
 }
 
-// Whether a book of the row's records tells what the row says, and a view of it has as many.
+// Whether a book tells what the row says, and has as many entries as the row has records.
+fn tells<D: Disk>(book: &Book<D>, row: &Telling) -> bool {
+    tells_of_the_flight(book, row)
+        && tells_of_the_attempts(book, row)
+        && tells_of_the_owed(book, row)
+        && book.entry(0).is_some()
+        && book.entry(book.len()).is_none()
+        && book.len() == row.records.len() as u64
+}
+
+// Whether a book of the row's records tells what the row says.
 fn is_told(rt: &impl Abort, alloc: Global, row: &Telling) -> Result<bool, AllocError> {
     let file = file_of(alloc, row.records)?;
     let Ok(book) = mount(rt, alloc, &file, Vec::new(alloc))? else {
         return Ok(false);
     };
-    let told = tells_of_the_flight(&book, row)
-        && tells_of_the_attempts(&book, row)
-        && tells_of_the_owed(&book, row)
-        && book.entry(0).is_some()
-        && book.entry(book.len()).is_none();
-    Ok(told && viewed(alloc, book.release()) == row.records.len())
-}
-
-// How many entries a view has.
-fn viewed(alloc: Global, disk: MemoryDisk) -> usize {
-    match view(alloc, disk) {
-        Ok((entries, _)) => entries.len(),
-        Err(_) => 0,
-    }
+    Ok(tells(&book, row))
 }
 
 #[test]
@@ -512,28 +555,5 @@ fn a_book_tells_of_its_flights(rt: HostRuntime) -> Result<(), Fail> {
     for row in &TOLD {
         assert!(rt; is_told(&rt, rt.alloc(), row)?);
     }
-    Ok(())
-}
-
-// What a remount answers.
-fn remounted<D: Disk>(book: &mut Book<D>) -> Got {
-    match book.remount() {
-        Ok(()) => kept(book.len()),
-        Err(fault) => got_by(&fault),
-    }
-}
-
-#[test]
-fn a_book_is_mounted_again(rt: HostRuntime) -> Result<(), Fail> {
-    let alloc = rt.alloc();
-    let file = file_of(alloc, &[Coding::Owner, Coding::Plan, Coding::Ticket])?;
-    // A mount makes three calls; the fifth is the second of a remount.
-    let Ok(mut book) = mount(&rt, alloc, &file, vec![in alloc; 5]?)? else {
-        rt.abort();
-    };
-    assert!(rt; remounted(&mut book) == refused(141, 0));
-    assert!(rt; book.len() == 3);
-    assert!(rt; remounted(&mut book) == kept(3));
-    assert!(rt; book.release().bytes() == file.as_slice());
     Ok(())
 }

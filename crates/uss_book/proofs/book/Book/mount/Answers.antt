@@ -3,7 +3,7 @@ use Rattle.std.proofs.lemmas.Bool.{eqb-true}
 use Rattle.std.proofs.lemmas.List.{nil_from_length}
 use Rattle.uss_disk.specs.Disk.{bytes_of, CrashLeaves}
 use Rattle.uss_book.specs.Book.{MountLeaves}
-use Rattle.uss_book.proofs.Mount.{owned_found, begun_crash, unbegun_crash, begun_left, owned_left}
+use Rattle.uss_book.proofs.Mount.{owned_found, begun_crash, unbegun_crash, begun_left, owned_left, begun_stays, owned_stays}
 use Rattle.uss_book.proofs.book.Book.mount.Goals as goal
 
 pub returns-then-is_empty-clause-crash : goal.returns-then-is_empty-clause-crash
@@ -40,3 +40,15 @@ pub returns-in-Err-clause-crash : goal.returns-in-Err-clause-crash
 returns-in-Err-clause-crash g c = λ honest.
     let D = g.D.Disk in
     unbegun_crash D.may_leave D.moment D.left_since c.args.disk c.in-Err.refused.back c.args.owner (bytes_of (D.reads c.args.disk)) (c.in-Err.ensures.crash honest)
+
+pub returns-then-is_empty-clause-stays : goal.returns-then-is_empty-clause-stays
+returns-then-is_empty-clause-stays g c = λ honest.
+    let D = g.D.Disk in
+    let items = c.in-Ok.found.1.entries in
+    let none : items ≡ [] = sym c.as_slice.ensures ∙ nil_from_length c.as_slice.result.now (eqb-true (length c.as_slice.result.now) 0 (sym c.is_empty.ensures ∙ c.if-is_empty.true)) in
+    begun_stays (λ d. bytes_of (D.reads d)) c.args.owner (bytes_of (D.reads c.args.disk)) items c.begun.result none (c.in-Ok.ensures.found honest) c.begun.ensures.entries
+
+pub returns-else-is_empty-clause-stays : goal.returns-else-is_empty-clause-stays
+returns-else-is_empty-clause-stays g c = λ honest.
+    let D = g.D.Disk in
+    owned_stays (λ d. bytes_of (D.reads d)) c.args.owner (bytes_of (D.reads c.args.disk)) c.in-Ok.found.0.disk c.owned.result (c.in-Ok.ensures.file honest) c.owned.ensures.disk c.owned.ensures.owner

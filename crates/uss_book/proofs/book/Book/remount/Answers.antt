@@ -4,9 +4,9 @@ use Rattle.uss_event.specs.declared.entries.Entry.{Entry}
 use Rattle.uss_book.specs.declared.refusal.BookFault.{BookFault}
 use Rattle.uss_book.specs.Book.{BookView, BookWithOrWithout}
 use Rattle.uss_book.specs.Refusal.{passed_on}
-use Rattle.uss_book.specs.Reread.{RereadBy, IsByRecords, after_refusal}
+use Rattle.uss_book.specs.Reread.{IsByRecords, after_refusal}
 use Rattle.uss_book.specs.Whole.{IsWhole}
-use Rattle.uss_book.proofs.Mounting.{refused_whole, reread_whole, apart_whole, refused_for_memory, remount_crash, by_records, by_journal}
+use Rattle.uss_book.proofs.Mounting.{refused_whole, reread_whole, apart_whole, refused_for_memory, remount_crash, by_journal}
 use Rattle.uss_book.proofs.book.Book.remount.Goals as goal
 
 pub invariant_of-self : goal.invariant_of-self
@@ -75,7 +75,7 @@ returns-in-Err-reread-clause-found g c = λ honest.
     let still = subst D.is_honest (sym is_disk) honest in
     refused_for_memory D.may_leave D.is_honest old.journal c.remount.new.self old.kept.entries old.spent old.tried old.used c.self.invariant c.remount.ensures.honest.0
     (bytes_of (D.reads old.journal.disk)) c.in-Err-reread.fault still (c.in_default.ensures.found still) (c.remount.ensures.kept still)
-    (subst (λ (l : List Entry). RereadBy l c.remount.new.self.records c.in-Err-reread.fault) c.as_slice.ensures c.in-Err-reread.ensures.refused)
+    (subst (λ (l : List Entry). IsByRecords l c.remount.new.self.records c.in-Err-reread.fault) c.as_slice.ensures c.in-Err-reread.ensures.refused) c.in-Err-reread.ensures.alone
 
 pub returns-in-Err-clause-records : goal.returns-in-Err-clause-records
 returns-in-Err-clause-records g c =
@@ -85,5 +85,4 @@ pub returns-in-Err-reread-clause-records : goal.returns-in-Err-reread-clause-rec
 returns-in-Err-reread-clause-records g c =
     let old = c.self.inside in
     let is_entries : old.kept.entries ≡ c.args.self.now.entries = ap (λ (v : BookView g.row.D.Denot). v.entries) c.self.view_is in
-    by_records c.args.self.now.entries c.remount.new.self.records c.in-Err-reread.fault
-    (subst (λ (l : List Entry). RereadBy l c.remount.new.self.records c.in-Err-reread.fault) (c.as_slice.ensures ∙ is_entries) c.in-Err-reread.ensures.refused)
+    subst (λ (l : List Entry). IsByRecords l c.remount.new.self.records c.in-Err-reread.fault) (c.as_slice.ensures ∙ is_entries) c.in-Err-reread.ensures.refused

@@ -1,0 +1,86 @@
+// A disk in memory that isn't honest.
+ghost use Rattle.std.specs.Prelude.{ℕ, List};
+
+use uss_disk::{Disk, DiskFault};
+
+// It reads as its first file, but between its second sync and its third as the other one. What is written is lost. No call fails.
+#[derive(Drop)]
+pub(crate) struct Turning {
+    first: Vec<u8>,
+    then: Vec<u8>,
+    syncs: u64,
+}
+
+impl Turning {
+    pub(crate) fn new(first: Vec<u8>, then: Vec<u8>) -> Turning {
+        Turning {
+            first,
+            then,
+            syncs: 0,
+        }
+    }
+
+    fn file(&self) -> &[u8] {
+        if self.syncs == 2 {
+            &self.then
+        } else {
+            &self.first
+        }
+    }
+}
+
+impl Disk for Turning {
+    ghost use Rattle.std.specs.Prelude.{None};
+
+    ghost reads = { λ _. None };
+
+    ghost may_leave = { λ _ _. Unit {0} };
+
+    ghost moment = { λ _. 0 };
+
+    ghost left_since = { λ _ _ _. Unit {0} };
+
+    ghost is_honest = { λ _. ⊥ };
+
+    ghost fault_count = { λ _. 0 };
+
+    fn len(&mut self) -> Result<u64, DiskFault> {
+        Ok(self.file().len() as u64)
+    }
+
+    fn read(&mut self, at: u64, buf: &mut [u8]) -> Result<(), DiskFault> {
+        let file = self.file();
+        for k in 0..buf.len() {
+            buf[k] = match file.get((at as usize).saturating_add(k)) {
+                Some(byte) => *byte,
+                None => 0,
+            };
+        }
+        Ok(())
+    }
+
+    fn write_at(&mut self, _at: u64, _bytes: &[u8]) -> Result<(), DiskFault> {
+        Ok(())
+    }
+
+    fn cut(&mut self, _len: u64) -> Result<(), DiskFault> {
+        Ok(())
+    }
+
+    fn sync(&mut self) -> Result<(), DiskFault> {
+        self.syncs = self.syncs.saturating_add(1);
+        Ok(())
+    }
+
+    fn faults(&self) -> u64 {
+        0
+    }
+
+    ghost tells = { λ _ honest. absurd honest };
+
+    ghost as_it_reads = { λ _ honest. absurd honest };
+
+    ghost counts_now = { λ _ _ _ honest _ _. absurd honest };
+
+    ghost only_now = { λ _ _ honest _. absurd honest };
+}
