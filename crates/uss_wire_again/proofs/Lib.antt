@@ -5,4 +5,3 @@ pub mod Volumes
 pub mod References
 pub mod Given
 pub mod Events
-mod FirstRefusals
