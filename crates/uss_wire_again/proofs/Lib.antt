@@ -5,3 +5,4 @@ pub mod Volumes
 pub mod References
 pub mod Given
 pub mod Events
+pub mod Deciding

@@ -122,7 +122,10 @@ read|{'skip':18446744073709551615,'tried':null}
 402 skip|{}
 403 skip|{'skip':-1}
 403 skip|{'skip':1.5}
-403 skip|{'skip':18446744073709551616}";
+403 skip|{'skip':18446744073709551616}
+403 skip|{'skip':1e308}
+401|{'skip':1e400}
+401|{'skip':0,'tried':-1e400}";
 
 #[test]
 fn what_suppliers_send_is_judged(rt: HostRuntime) -> Result<(), Fail> {

@@ -1,0 +1,10 @@
+use Rattle.std.proofs.Common.{◌∙◌}
+use Rattle.uss_wire.specs.Messages.{query_answer_at, put_reference_at}
+use Rattle.uss_wire_again.proofs.Deciding.{of_data, key_long, references_long}
+use Rattle.uss_wire_again.proofs.order.long_lists_are_refused_before_their_items.Goals as goal
+
+pub returns-clause-key : goal.returns-clause-key
+returns-clause-key c = λ f o b d extents items is none front has more. of_data (put_reference_at f o) b d is ∙ key_long f o d extents items none front has more
+
+pub returns-clause-references : goal.returns-clause-references
+returns-clause-references c = λ client b d items is has more. of_data (query_answer_at client) b d is ∙ references_long client d items has more

@@ -1,0 +1,37 @@
+ghost use Rattle.std.specs.Prelude.{◌≡◌, ◌<◌, ℕ, List, Option, Some, None, codes, Ok, Err, true};
+ghost use Rattle.serde_json.specs.Data.{Data, Items, array, boolean};
+ghost use Rattle.serde_json.specs.Find.{get};
+ghost use Rattle.uss_vol4.specs.Volume.{Volume4D};
+ghost use Rattle.uss_wire_base.specs.declared.refusal.Member.{Member};
+ghost use Rattle.uss_wire_base.specs.declared.refusal.Member.TheVariants as Member;
+ghost use Rattle.uss_wire_base.specs.declared.refusal.WireRefusal.TheVariants.{NotThisProfile, TooMany};
+ghost use Rattle.uss_wire_base.specs.Reading.{data_of, message_of, field, list_at, items_length};
+ghost use Rattle.uss_wire_volume.specs.Volumes.{vertex_at, volume_at};
+ghost use Rattle.uss_wire.specs.Messages as read;
+
+/// A member that this profile refuses decides, whatever the other members of its object are, and whether they are there: the message
+/// that holds it is answered so. Here `d` is the value of the bytes, and a vertex may stand anywhere. The function does nothing.
+pub fn what_the_profile_refuses_comes_first()
+    ensures new_subscription { (f : ℕ) (o : Option (List ℕ)) (b : List ℕ) (d x : Data) → data_of b ≡ Some d
+        → get (codes "new_subscription") d ≡ Some x → message_of (read.put_reference_at f o) b ≡ Err (NotThisProfile Member.NewSubscription) }
+    ensures constraints { (t : ℕ) (b : List ℕ) (d : Data) → data_of b ≡ Some d → get (codes "notify_for_constraints") d ≡ Some (boolean true)
+        → message_of (read.put_subscription_at t) b ≡ Err (NotThisProfile Member.NotifyForConstraints) }
+    ensures circle { (b : List ℕ) (d area space x : Data) → data_of b ≡ Some d → get (codes "area_of_interest") d ≡ Some area
+        → get (codes "volume") area ≡ Some space → get (codes "outline_circle") space ≡ Some x
+        → message_of read.query_at b ≡ Err (NotThisProfile Member.OutlineCircle) }
+    ensures latitude_in_degrees { (m : Member) (d x : Data) → get (codes "lat") d ≡ Some x → vertex_at m d ≡ Err (NotThisProfile Member.Lat) }
+    ensures longitude_in_degrees { (m : Member) (d x : Data) → get (codes "lat") d ≡ None → get (codes "lng") d ≡ Some x
+        → vertex_at m d ≡ Err (NotThisProfile Member.Lng) }
+{}
+
+/// A list that is too long is refused whatever its items are, once what stands before it in the format was read. Nothing that stands
+/// behind it is looked at. The function does nothing.
+pub fn long_lists_are_refused_before_their_items()
+    ensures key { (f : ℕ) (o : Option (List ℕ)) (b : List ℕ) (d : Data) (extents : List Volume4D) (items : Items) → data_of b ≡ Some d
+        → get (codes "new_subscription") d ≡ None → field Member.Extents (list_at volume_at) d ≡ Ok extents
+        → get (codes "key") d ≡ Some (array items) → 1024 < items_length items
+        → message_of (read.put_reference_at f o) b ≡ Err (TooMany Member.Key) }
+    ensures references { (client b : List ℕ) (d : Data) (items : Items) → data_of b ≡ Some d
+        → get (codes "operational_intent_references") d ≡ Some (array items) → 4096 < items_length items
+        → message_of (read.query_answer_at client) b ≡ Err (TooMany Member.OperationalIntentReferences) }
+{}
