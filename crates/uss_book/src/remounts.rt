@@ -109,6 +109,19 @@ fn is_mended<D: Disk>(
     is_open_again(rt, alloc, book, 1, entries)
 }
 
+// Whether that is so of a book of whose disk the call with this number fails.
+fn is_mended_after(
+    rt: &impl Abort,
+    alloc: Global,
+    number: u64,
+    entries: u64,
+) -> Result<bool, AllocError> {
+    match known(rt, alloc, number)? {
+        Some(mut book) => is_mended(rt, alloc, &mut book, entries),
+        None => Ok(false),
+    }
+}
+
 // The call that fails, and how many entries there are then. After the three calls of a mount the record is written and synced, and its
 // gate is opened and synced.
 const FAULTS: [(u64, u64); 4] = [(4, 3), (5, 3), (6, 3), (7, 4)];
@@ -116,10 +129,7 @@ const FAULTS: [(u64, u64); 4] = [(4, 3), (5, 3), (6, 3), (7, 4)];
 #[test]
 fn an_entry_that_met_a_fault_is_there_or_not(rt: HostRuntime) -> Result<(), Fail> {
     for (number, entries) in &FAULTS {
-        let Some(mut book) = known(&rt, rt.alloc(), *number)? else {
-            rt.abort();
-        };
-        assert!(rt; is_mended(&rt, rt.alloc(), &mut book, *entries)?);
+        assert!(rt; is_mended_after(&rt, rt.alloc(), *number, *entries)?);
     }
     Ok(())
 }
@@ -240,11 +250,16 @@ fn is_missed<D: Disk>(
     Ok(entered && remounted(book) == refused(154, 3) && book.len() == 4)
 }
 
+// Whether that is so of a book on a disk that loses what is written.
+fn is_lost(rt: &impl Abort, alloc: Global) -> Result<bool, AllocError> {
+    match turning(rt, alloc, &KNOWN, Vec::new(alloc))? {
+        Some(mut book) => is_missed(rt, alloc, &mut book),
+        None => Ok(false),
+    }
+}
+
 #[test]
 fn an_entry_that_the_disk_lost_is_missed(rt: HostRuntime) -> Result<(), Fail> {
-    let Some(mut book) = turning(&rt, rt.alloc(), &KNOWN, Vec::new(rt.alloc()))? else {
-        rt.abort();
-    };
-    assert!(rt; is_missed(&rt, rt.alloc(), &mut book)?);
+    assert!(rt; is_lost(&rt, rt.alloc())?);
     Ok(())
 }

@@ -243,17 +243,6 @@ fn enter_three<D: Disk>(
     Ok(new && plan && ticket && trial && !again && room)
 }
 
-// A new book in which these were entered.
-fn entered(rt: &impl Abort, alloc: Global) -> Result<Option<Book<MemoryDisk>>, AllocError> {
-    match mount(rt, alloc, b"", Vec::new(alloc))? {
-        Ok(mut book) => match enter_three(rt, alloc, &mut book)? {
-            true => Ok(Some(book)),
-            false => Ok(None),
-        },
-        Err(_) => Ok(None),
-    }
-}
-
 // Whether a mount after each stop finds the entries before the last that was begun, or with it. A new book is made by eight calls, and
 // each entry is entered by four.
 fn are_found(rt: &impl Abort, alloc: Global, calls: &[Call]) -> Result<bool, AllocError> {
@@ -268,15 +257,36 @@ fn are_found(rt: &impl Abort, alloc: Global, calls: &[Call]) -> Result<bool, All
     Ok(calls.len() == 20 && found_after(rt, alloc, b"", calls)? == kept(4))
 }
 
+// The disk of a book, once three were entered in it.
+fn written_by(
+    rt: &impl Abort,
+    alloc: Global,
+    book: Book<MemoryDisk>,
+) -> Result<Option<MemoryDisk>, AllocError> {
+    let mut book = book;
+    match enter_three(rt, alloc, &mut book) {
+        Ok(true) => Ok(Some(book.release())),
+        Ok(false) => Ok(None),
+        Err(error) => Err(error),
+    }
+}
+
+// Whether a stop is so while three are entered in a new book.
+fn is_stopped(rt: &impl Abort, alloc: Global) -> Result<bool, AllocError> {
+    let Ok(book) = mount(rt, alloc, b"", Vec::new(alloc))? else {
+        return Ok(false);
+    };
+    match written_by(rt, alloc, book)? {
+        Some(disk) => are_found(rt, alloc, disk.calls()),
+        None => Ok(false),
+    }
+}
+
 #[test]
 fn a_stop_at_any_call_leaves_the_book_before_it_or_with_the_one_entry(
     rt: HostRuntime,
 ) -> Result<(), Fail> {
-    let Some(book) = entered(&rt, rt.alloc())? else {
-        rt.abort();
-    };
-    let disk = book.release();
-    assert!(rt; are_found(&rt, rt.alloc(), disk.calls())?);
+    assert!(rt; is_stopped(&rt, rt.alloc())?);
     Ok(())
 }
 
@@ -309,25 +319,18 @@ fn is_full<D: Disk>(rt: &impl Abort, alloc: Global, book: &Book<D>) -> Result<bo
     }
 }
 
-// A book of so many open jobs.
-fn with_open(
-    rt: &impl Abort,
-    alloc: Global,
-    count: u8,
-) -> Result<Option<Book<MemoryDisk>>, AllocError> {
-    let file = opened(alloc, count)?;
+// Whether that is so of a mounted one.
+fn is_at_the_limit(rt: &impl Abort, alloc: Global) -> Result<bool, AllocError> {
+    let file = opened(alloc, 63)?;
     match mount(rt, alloc, &file, Vec::new(alloc))? {
-        Ok(book) => Ok(Some(book)),
-        Err(_) => Ok(None),
+        Ok(book) => is_full(rt, alloc, &book),
+        Err(_) => Ok(false),
     }
 }
 
 #[test]
 fn at_most_63_jobs_are_open(rt: HostRuntime) -> Result<(), Fail> {
-    let Some(book) = with_open(&rt, rt.alloc(), 63)? else {
-        rt.abort();
-    };
-    assert!(rt; is_full(&rt, rt.alloc(), &book)?);
+    assert!(rt; is_at_the_limit(&rt, rt.alloc())?);
     let file = opened(rt.alloc(), 64)?;
     assert!(rt; is_answered(&rt, rt.alloc(), &file, refused(151, 64))?);
     Ok(())
