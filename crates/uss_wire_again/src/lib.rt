@@ -12,6 +12,8 @@ pub use laws::{
 pub use order::{long_lists_are_refused_before_their_items, the_profile_is_looked_at_first};
 
 #[cfg(test)]
+mod fields;
+#[cfg(test)]
 mod hostile;
 #[cfg(test)]
 mod kinds;
