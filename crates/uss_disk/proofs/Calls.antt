@@ -180,9 +180,9 @@ left_after old act new done image left =
     (subst (λ (cs : List Call). LeftAfter old.first cs image) done.calls (subst (λ (f : List ℕ). LeftAfter f new.calls image) done.first left))
 
 pub count_after : {T : Type 0} (old : MemoryView) (act : Act) (result : Result T DiskFault) (new : MemoryView) → Recorded old act (is_ok result) new → Counts old.faults new.faults result
-count_after old act (Ok x) new done = record { kept = omega (arith, done.faults); cause = tt }
-count_after old act (Err e) new (inl failed) = record { kept = failed.counted.no_lower; cause = failed.counted.rose }
-count_after old act (Err e) new (inr none) = record { kept = none.counted.no_lower; cause = none.counted.rose }
+count_after old act (Ok x) new done = record { kept = omega (arith, done.faults); cause = tt; calm = done.faults }
+count_after old act (Err e) new (inl failed) = record { kept = failed.counted.no_lower; cause = failed.counted.rose; calm = tt }
+count_after old act (Err e) new (inr none) = record { kept = none.counted.no_lower; cause = none.counted.rose; calm = tt }
 
 pub write_done : {T : Type 0} (old : MemoryView) (at : ℕ) (bytes : List ℕ) (result : Result T DiskFault) (new : MemoryView) → Recorded old (Write at bytes) (is_ok result) new
     → OnOk result (reading new.first new.calls ≡ written at bytes (reading old.first old.calls))

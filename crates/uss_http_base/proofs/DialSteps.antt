@@ -1,8 +1,9 @@
 -- A dial as a stream.
-use Rattle.std.proofs.Common.{◌≡◌, ℕ, ◌<◌, Bool, true, false, List, [], ◌∷◌, ◌++◌, length, take, Option, Some, None, Ok, refl, sym, ap, ◌∙◌, subst, arith, append_assoc}
+use Rattle.std.proofs.Common.{◌≡◌, ℕ, ◌<◌, Bool, true, false, List, [], ◌∷◌, ◌++◌, length, take, Option, Some, None, Ok, Err, refl, sym, ap, ◌∙◌, subst, arith, append_assoc, append-nil}
 use Rattle.std.specs.Prelude.{◌==◌, ◌&&◌, ◌||◌, nat_lt, IsTrue}
 use Rattle.std.proofs.lemmas.Bool.Decides.{nat_tests}
-use Rattle.uss_link.specs.Talks.{Talk, with_received, Receives}
+use Rattle.uss_link.specs.Talks.{Talk, with_received, Receives, Speaks}
+use Rattle.uss_link.proofs.Sending.{stays_on}
 use Rattle.uss_http_base.specs.Dials.{heard, is_over, HeardFrom, IsOver}
 
 -- the last of the streams, behind the earlier ones
@@ -31,17 +32,28 @@ heard_twice x y d e (talk ∷ next ∷ []) = ap (λ (ts : List Talk). talk ∷ t
 heard_twice x y d e (talk ∷ next ∷ third ∷ talks) = ap (λ (ts : List Talk). talk ∷ ts) (heard_twice x y d e (next ∷ third ∷ talks))
 
 -- one call that received
-pub heard_more : {E : Type 0} (origin before after : Option (List Talk)) (past buffer filled : List ℕ) (n : ℕ) → HeardFrom origin before past → Receives {E = E} before after buffer filled (Ok n) → HeardFrom origin after (past ++ take n filled)
-heard_more origin before after past buffer filled n had receives =
+pub heard_more : {E : Type 0} (origin before after : Option (List Talk)) (first was is : Option Bool) (past buffer filled : List ℕ) (n : ℕ) → HeardFrom origin before first was past → Receives {E = E} before after buffer filled (Ok n) → Speaks {T = ℕ} {E = E} was is (Ok n) → HeardFrom origin after first is (past ++ take n filled)
+heard_more origin before after first was is past buffer filled n had receives speaks =
     record {
-      told = λ talks is.
-          let h = had.told talks is in
+      told = λ talks same.
+          let h = had.told talks same in
           let g = receives.told (heard past h.is_end talks) h.told in
           let e = n == 0 && nat_lt 0 (length buffer) in
           record {
             is_end = h.is_end || e;
             told = g.are ∙ ap Some (sym (heard_last (take n filled) e g.earlier g.last) ∙ ap (heard (take n filled) e) (sym g.were) ∙ heard_twice past (take n filled) h.is_end e talks);
           };
+      stays = stays_on first was is had.stays speaks.stays;
+    }
+
+-- one call that answered a fault
+pub heard_same : {E : Type 0} (origin before after : Option (List Talk)) (first was is : Option Bool) (past buffer filled : List ℕ) (e : E) → HeardFrom origin before first was past → Receives {E = E} before after buffer filled (Err e) → Speaks {T = ℕ} {E = E} was is (Err e) → HeardFrom origin after first is (past ++ [])
+heard_same origin before after first was is past buffer filled e had receives speaks =
+    record {
+      told = λ talks same.
+          let h = had.told talks same in
+          record { is_end = h.is_end; told = receives.told (heard past h.is_end talks) h.told ∙ ap (λ (bytes : List ℕ). Some (heard bytes h.is_end talks)) (sym (append-nil past)) };
+      stays = stays_on first was is had.stays speaks.stays;
     }
 
 end_given : (n : ℕ) (buffer : List ℕ) → n ≡ 0 → 0 < length buffer → (n == 0 && nat_lt 0 (length buffer)) ≡ true

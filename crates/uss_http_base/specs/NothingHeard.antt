@@ -17,5 +17,5 @@ heard_none (talk ∷ []) = ap (λ (t : Talk). t ∷ []) (same_last talk)
 heard_none (talk ∷ next ∷ talks) = ap (λ (ts : List Talk). talk ∷ ts) (heard_none (next ∷ talks))
 
 -- between a moment and itself nothing was received
-pub heard_nothing : (now : Option (List Talk)) → HeardFrom now now []
-heard_nothing now = record { told = λ talks is. record { is_end = false; told = is ∙ ap Some (sym (heard_none talks)) } }
+pub heard_nothing : (now : Option (List Talk)) (is : Option Bool) → HeardFrom now now is is []
+heard_nothing now is = record { told = λ talks same. record { is_end = false; told = same ∙ ap Some (sym (heard_none talks)) }; stays = record { told = λ was same. same } }

@@ -1,4 +1,4 @@
-ghost use Rattle.std.specs.Prelude.{◌≡◌, ℕ, ◌++◌, ◌<◌, ◌≤◌, length, Ok, Err, IfOk, IfErr, OnOk};
+ghost use Rattle.std.specs.Prelude.{◌≡◌, ◌≢◌, ℕ, ◌++◌, ◌<◌, ◌≤◌, length, Ok, Err, IfOk, IfErr, OnOk};
 ghost use Rattle.httparse.specs.Ascii.{crlf_bytes};
 ghost use Rattle.uss_cause.specs.Cause.{Rose};
 ghost use Rattle.uss_http_base.specs.Streams.{Hears, Passes, UnlessOutside};
@@ -49,6 +49,7 @@ fn take_size<K, T: Stream<K>>(stream: &mut T, intake: &mut Intake) -> Result<u64
     ensures kept { T.faults stream.old ≤ T.faults stream.new }
     ensures heard { Hears T.gave stream.old stream.new }
     ensures fault { result ≡ Err ReadRefusal.Fault → Rose (T.faults stream.old) (T.faults stream.new) }
+    ensures calm { result ≢ Err ReadRefusal.Fault → T.faults stream.new ≡ T.faults stream.old }
 {
     let (len, size) = match take_piece(stream, intake, &mut SizeLine) {
         Ok(found) => found,
@@ -67,6 +68,7 @@ fn take_line_end<K, T: Stream<K>>(stream: &mut T, intake: &mut Intake) -> Result
     ensures kept { T.faults stream.old ≤ T.faults stream.new }
     ensures heard { Hears T.gave stream.old stream.new }
     ensures fault { result ≡ Err Halt.Fault → Rose (T.faults stream.old) (T.faults stream.new) }
+    ensures calm { result ≢ Err Halt.Fault → T.faults stream.new ≡ T.faults stream.old }
 {
     match take_piece(stream, intake, &mut ChunkEnd) {
         Ok(()) => {}
@@ -91,6 +93,7 @@ pub fn take_chunk<K, T: Stream<K>>(
     ensures kept { T.faults stream.old ≤ T.faults stream.new }
     ensures heard { Hears T.gave stream.old stream.new }
     ensures fault { result ≡ Err ReadRefusal.Fault → Rose (T.faults stream.old) (T.faults stream.new) }
+    ensures calm { result ≢ Err ReadRefusal.Fault → T.faults stream.new ≡ T.faults stream.old }
 {
     let size = match take_size(stream, intake) {
         Ok(size) => size,

@@ -1,4 +1,4 @@
-ghost use Rattle.std.specs.Prelude.{◌≡◌, ◌<◌, ◌≤◌, length, Err, IfErr, OnOk};
+ghost use Rattle.std.specs.Prelude.{◌≡◌, ◌≢◌, ◌<◌, ◌≤◌, length, Err, IfErr, OnOk};
 ghost use Rattle.uss_cause.specs.Cause.{Rose};
 ghost use Rattle.uss_http_base.specs.Prompt.{IsPrompt};
 ghost use Rattle.uss_http_base.specs.Streams.{Hears, Moves, Lacks, IsEndOrOutside, UnlessOutside};
@@ -21,6 +21,7 @@ pub fn take_data<K, T: Stream<K>>(
     ensures kept { T.faults stream.old ≤ T.faults stream.new }
     ensures heard { Hears T.gave stream.old stream.new }
     ensures fault { result ≡ Err Halt.Fault → Rose (T.faults stream.old) (T.faults stream.new) }
+    ensures calm { result ≢ Err Halt.Fault → T.faults stream.new ≡ T.faults stream.old }
     ensures kinds { IfErr result IsEndOrOutside }
 {
     let ready = count.min(intake.len());

@@ -11,7 +11,7 @@ pub struct FromDial;
 impl<G: Dial> Stream<FromDial> for G {
     ghost faults = { G.faults };
 
-    ghost gave = { λ s t bytes. HeardFrom (G.talks s) (G.talks t) bytes };
+    ghost gave = { λ s t bytes. HeardFrom (G.talks s) (G.talks t) (G.is_open s) (G.is_open t) bytes };
 
     ghost ended = { λ s. IsOver (G.talks s) };
 
@@ -22,5 +22,5 @@ impl<G: Dial> Stream<FromDial> for G {
         }
     }
 
-    ghost nothing = { λ s. heard_nothing (G.talks s) };
+    ghost nothing = { λ s. heard_nothing (G.talks s) (G.is_open s) };
 }

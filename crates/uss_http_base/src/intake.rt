@@ -1,4 +1,4 @@
-ghost use Rattle.std.specs.Prelude.{◌≡◌, ℕ, ◌+◌, ◌<◌, ◌≤◌, ◌++◌, [], List, length, drop, take, Ok, Err, IfOk, IfErr, OnOk, IsErrOf};
+ghost use Rattle.std.specs.Prelude.{◌≡◌, ◌≢◌, ℕ, ◌+◌, ◌<◌, ◌≤◌, ◌++◌, [], List, length, drop, take, Ok, Err, IfOk, IfErr, OnOk, IsErrOf};
 ghost use Rattle.uss_cause.specs.Cause.{Rose};
 ghost use Rattle.uss_http_base.specs.Pieces.{piece_limit};
 ghost use Rattle.uss_http_base.specs.Prompt.{GrowsBy, call_limit};
@@ -67,6 +67,7 @@ fn add_next<K, T: Stream<K>>(
     ensures kept { T.faults stream.old ≤ T.faults stream.new }
     ensures heard { Hears T.gave stream.old stream.new }
     ensures fault { IsErrOf result Halt.Fault → Rose (T.faults stream.old) (T.faults stream.new) }
+    ensures calm { result ≢ Err Halt.Fault → T.faults stream.new ≡ T.faults stream.old }
     ensures kinds { IfErr result IsOutside }
 {
     let count = match stream.next(piece) {
@@ -153,6 +154,7 @@ impl Intake {
         ensures kept { T.faults stream.old ≤ T.faults stream.new }
         ensures heard { Hears T.gave stream.old stream.new }
         ensures fault { IsErrOf result Halt.Fault → Rose (T.faults stream.old) (T.faults stream.new) }
+        ensures calm { result ≢ Err Halt.Fault → T.faults stream.new ≡ T.faults stream.old }
         ensures kinds { IfErr result IsOutside }
     {
         self.make_room()?;
@@ -181,6 +183,7 @@ impl Intake {
         ensures kept { T.faults stream.old ≤ T.faults stream.new }
         ensures heard { Hears T.gave stream.old stream.new }
         ensures fault { IsErrOf result Halt.Fault → Rose (T.faults stream.old) (T.faults stream.new) }
+        ensures calm { result ≢ Err Halt.Fault → T.faults stream.new ≡ T.faults stream.old }
         ensures kinds { IfErr result IsOutside }
     {
         let want = limit.min(self.piece.len());

@@ -1,4 +1,4 @@
-ghost use Rattle.std.specs.Prelude.{◌≡◌, ℕ, ◌+◌, ◌<◌, ◌≤◌, List, length, take, Ok, Err, IfOk, IfErr, OnOk, IsErrOf};
+ghost use Rattle.std.specs.Prelude.{◌≡◌, ◌≢◌, ℕ, ◌+◌, ◌<◌, ◌≤◌, List, length, take, Ok, Err, IfOk, IfErr, OnOk, IsErrOf};
 ghost use Rattle.uss_cause.specs.Cause.{Rose};
 ghost use Rattle.uss_http_base.specs.Prompt.{GrowsBy, IsPrompt, call_limit};
 ghost use Rattle.uss_http_base.specs.Streams.{Hears, Passes, UnlessOutside, IsOutside};
@@ -63,6 +63,7 @@ fn take_on<K, T: Stream<K>, P: Piece>(
     ensures kept { T.faults stream.old ≤ T.faults stream.new }
     ensures heard { Hears T.gave stream.old stream.new }
     ensures fault { IsErrOf result Halt.Fault → Rose (T.faults stream.old) (T.faults stream.new) }
+    ensures calm { result ≢ Err Halt.Fault → T.faults stream.new ≡ T.faults stream.old }
     ensures kinds { IfErr result IsOutside }
 {
     let before = intake.len();
@@ -103,6 +104,7 @@ pub fn take_piece<K, T: Stream<K>, P: Piece>(
     ensures kept { T.faults stream.old ≤ T.faults stream.new }
     ensures heard { Hears T.gave stream.old stream.new }
     ensures fault { result ≡ Err Halt.Fault → Rose (T.faults stream.old) (T.faults stream.new) }
+    ensures calm { result ≢ Err Halt.Fault → T.faults stream.new ≡ T.faults stream.old }
 {
     'looking: loop {
         match piece.look(intake.front()) {

@@ -1,4 +1,4 @@
-ghost use Rattle.std.specs.Prelude.{◌≡◌, ℕ, ◌≤◌, List, [], Some, Err, IsErrOf};
+ghost use Rattle.std.specs.Prelude.{◌≡◌, ◌≢◌, ℕ, ◌≤◌, List, [], Some, Err, IsErrOf};
 ghost use Rattle.uss_cause.specs.Cause.{Rose};
 ghost use Rattle.uss_http_base.specs.Requests.{AnswersStream, IsAnswerOf, IsRefused};
 ghost use Rattle.uss_http_base.specs.Prompt.{IsPrompt, ButForFaults};
@@ -34,6 +34,7 @@ pub fn take_request<K, T: Stream<K>>(alloc: Global, stream: &mut T) -> Result<Re
     ensures kept { T.faults stream.old ≤ T.faults stream.new }
     ensures heard { Hears T.gave stream.old stream.new }
     ensures fault { result ≡ Err ReadRefusal.Fault → Rose (T.faults stream.old) (T.faults stream.new) }
+    ensures calm { result ≢ Err ReadRefusal.Fault → T.faults stream.new ≡ T.faults stream.old }
 {
     let mut intake = match Intake::new(alloc) {
         Ok(intake) => intake,

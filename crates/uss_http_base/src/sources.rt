@@ -1,4 +1,4 @@
-ghost use Rattle.std.specs.Prelude.{◌≡◌, ℕ, ◌≤◌, List, Some, Err};
+ghost use Rattle.std.specs.Prelude.{◌≡◌, ◌≢◌, ℕ, ◌≤◌, List, Some, Err};
 ghost use Rattle.uss_cause.specs.Cause.{Rose};
 ghost use Rattle.uss_http_base.specs.Prompt.{ButForFaults};
 ghost use Rattle.uss_http_base.specs.Requests.{IsAnswerOf, ReadsPromptly};
@@ -39,6 +39,7 @@ pub fn request_from<S: Source>(alloc: Global, input: &mut S) -> Result<Request, 
     ensures prompt { (bytes : List ℕ) → S.left input.old ≡ Some bytes → ButForFaults result (ReadsPromptly bytes (S.left input.new)) }
     ensures kept { S.faults input.old ≤ S.faults input.new }
     ensures fault { result ≡ Err ReadRefusal.Fault → Rose (S.faults input.old) (S.faults input.new) }
+    ensures calm { result ≢ Err ReadRefusal.Fault → S.faults input.new ≡ S.faults input.old }
 {
     take_request(alloc, input)
 }

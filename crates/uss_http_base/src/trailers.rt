@@ -1,4 +1,4 @@
-ghost use Rattle.std.specs.Prelude.{◌≡◌, ℕ, ◌<◌, ◌≤◌, List, length, drop, Err, IfOk, IfErr, OnOk};
+ghost use Rattle.std.specs.Prelude.{◌≡◌, ◌≢◌, ℕ, ◌<◌, ◌≤◌, List, length, drop, Err, IfOk, IfErr, OnOk};
 ghost use Rattle.httparse.specs.Grammar.{LineEnd, Field, print_section, ReadsSection, NeverHasSection};
 ghost use Rattle.uss_cause.specs.Cause.{Rose};
 ghost use Rattle.uss_http_base.specs.BodyAnswers.{TakesTrailers, MissesTrailers};
@@ -88,6 +88,7 @@ pub fn take_trailers<K, T: Stream<K>>(
     ensures kept { T.faults stream.old ≤ T.faults stream.new }
     ensures heard { Hears T.gave stream.old stream.new }
     ensures fault { result ≡ Err Halt.Fault → Rose (T.faults stream.old) (T.faults stream.new) }
+    ensures calm { result ≢ Err Halt.Fault → T.faults stream.new ≡ T.faults stream.old }
 {
     match take_piece(stream, intake, trailers) {
         Ok(_) => Ok(()),

@@ -1,5 +1,5 @@
 -- How soon reading a response stops.
-use Rattle.std.proofs.Common.{◌≡◌, ℕ, ◌≤◌, List, [], ◌++◌, length, refl, sym, subst, arith, Option, Some, Ok, Err, inl, inr}
+use Rattle.std.proofs.Common.{◌≡◌, ℕ, ◌≤◌, Bool, List, [], ◌++◌, length, refl, sym, subst, arith, Option, Some, Ok, Err, inl, inr}
 use Rattle.std.specs.Prelude.{Result}
 use Rattle.httparse.specs.Grammar.{print_response}
 use Rattle.uss_link.specs.Talks.{Talk}
@@ -54,14 +54,14 @@ body_prompt gave s t u kept left head empty taken one two =
     prompt_then gave s t u [] left (print_response taken.has.tree) IsOpen (IsOpenBodyAt head.body) passes (head_prompt gave s t kept empty one) two (λ seen is. inr (record { head = head; rest = seen; has_head = with_rest taken.all left seen head taken.has; open_body = is }))
 
 -- what was received over a dial that tells
-receives_promptly : {S : Type 0} (talks_of : S → Option (List Talk)) (s t : S) (talks : List Talk) → talks_of s ≡ Some talks → IsPrompt (λ (a b : S) (bytes : List ℕ). HeardFrom (talks_of a) (talks_of b) bytes) s [] t IsOpen → ReceivesPromptly talks (talks_of t)
-receives_promptly talks_of s t talks is (stays same) =
-    let h = (same.told s [] (heard_nothing (talks_of s))).told talks is in
+receives_promptly : {S : Type 0} (talks_of : S → Option (List Talk)) (open_of : S → Option Bool) (s t : S) (talks : List Talk) → talks_of s ≡ Some talks → IsPrompt (λ (a b : S) (bytes : List ℕ). HeardFrom (talks_of a) (talks_of b) (open_of a) (open_of b) bytes) s [] t IsOpen → ReceivesPromptly talks (talks_of t)
+receives_promptly talks_of open_of s t talks is (stays same) =
+    let h = (same.told s [] (heard_nothing (talks_of s) (open_of s))).told talks is in
     record { seen = []; late = []; is_end = h.is_end; told = h.told; was_open = inl refl; few = record { doubled = omega arith; within = omega arith } }
-receives_promptly talks_of s t talks is (soon stops) =
-    let h = (stops.passes.told s [] (heard_nothing (talks_of s))).told talks is in
+receives_promptly talks_of open_of s t talks is (soon stops) =
+    let h = (stops.passes.told s [] (heard_nothing (talks_of s) (open_of s))).told talks is in
     record { seen = stops.seen; late = stops.late; is_end = h.is_end; told = h.told; was_open = inr stops.was_open; few = stops.few }
 
-pub dial_prompt : {A S : Type 0} (talks_of : S → Option (List Talk)) (s t : S) (talks : List Talk) (answer : Result A ReadRefusal) → talks_of s ≡ Some talks → ButForFaults answer (IsPrompt (λ (a b : S) (bytes : List ℕ). HeardFrom (talks_of a) (talks_of b) bytes) s [] t IsOpen) → ButForFaults answer (ReceivesPromptly talks (talks_of t))
-dial_prompt talks_of s t talks (Ok x) is p = receives_promptly talks_of s t talks is p
-dial_prompt talks_of s t talks (Err e) is p = refused_map e _ _ (λ q. receives_promptly talks_of s t talks is q) p
+pub dial_prompt : {A S : Type 0} (talks_of : S → Option (List Talk)) (open_of : S → Option Bool) (s t : S) (talks : List Talk) (answer : Result A ReadRefusal) → talks_of s ≡ Some talks → ButForFaults answer (IsPrompt (λ (a b : S) (bytes : List ℕ). HeardFrom (talks_of a) (talks_of b) (open_of a) (open_of b) bytes) s [] t IsOpen) → ButForFaults answer (ReceivesPromptly talks (talks_of t))
+dial_prompt talks_of open_of s t talks (Ok x) is p = receives_promptly talks_of open_of s t talks is p
+dial_prompt talks_of open_of s t talks (Err e) is p = refused_map e _ _ (λ q. receives_promptly talks_of open_of s t talks is q) p

@@ -1,5 +1,5 @@
 -- From a head and a body to a response.
-use Rattle.std.proofs.Common.{◌≡◌, ℕ, List, [], ◌++◌, take, refl, sym, ap, ◌∙◌, subst, arith, Option, Some, Ok, Err, inl, inr, append_assoc, append-nil, length-append}
+use Rattle.std.proofs.Common.{◌≡◌, ℕ, Bool, List, [], ◌++◌, take, refl, sym, ap, ◌∙◌, subst, arith, Option, Some, Ok, Err, inl, inr, append_assoc, append-nil, length-append}
 use Rattle.std.specs.Prelude.{Result}
 use Rattle.std.proofs.lemmas.List.{take-append-le}
 use Rattle.httparse.specs.Grammar.{ResponseHead, print_response, NeverHasResponse}
@@ -170,7 +170,7 @@ response_taken gave ended s t u kept left body head response nothing empty taken
     }
 
 -- what was received over a dial that tells
-pub received : {S : Type 0} (talks_of : S → Option (List Talk)) (s t : S) (talks : List Talk) (answer : Result Response ReadRefusal) → talks_of s ≡ Some talks → ShowsAnswer (λ (a b : S) (bytes : List ℕ). HeardFrom (talks_of a) (talks_of b) bytes) (λ (a : S). IsOver (talks_of a)) s t answer → IsReceived talks (talks_of t) answer
-received talks_of s t talks answer is shows =
+pub received : {S : Type 0} (talks_of : S → Option (List Talk)) (open_of : S → Option Bool) (s t : S) (talks : List Talk) (answer : Result Response ReadRefusal) → talks_of s ≡ Some talks → ShowsAnswer (λ (a b : S) (bytes : List ℕ). HeardFrom (talks_of a) (talks_of b) (open_of a) (open_of b) bytes) (λ (a : S). IsOver (talks_of a)) s t answer → IsReceived talks (talks_of t) answer
+received talks_of open_of s t talks answer is shows =
     let h = shows.given.told talks is in
     record { bytes = shows.all; is_end = h.is_end; told = h.told; is_answer = λ more none. shows.is_answer more (λ over. none (over.told (heard shows.all h.is_end talks) h.told)) }

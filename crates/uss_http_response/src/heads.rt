@@ -1,4 +1,4 @@
-ghost use Rattle.std.specs.Prelude.{◌≡◌, ◌≤◌, ◌<◌, List, ℕ, length, map, take, All, Some, None, option_map, IfOk, IfErr, Err};
+ghost use Rattle.std.specs.Prelude.{◌≡◌, ◌≢◌, ◌≤◌, ◌<◌, List, ℕ, length, map, take, All, Some, None, option_map, IfOk, IfErr, Err};
 ghost use Rattle.httparse.specs.Grammar.{NeverHasResponse};
 ghost use Rattle.httparse.specs.Spans.{IsResponseOf, IsResponseWithin, IsHeaderWithin, header_bytes};
 ghost use Rattle.uss_cause.specs.Cause.{Rose};
@@ -144,6 +144,7 @@ pub fn take_status_head<K, T: Stream<K>>(
     ensures kept { T.faults stream.old ≤ T.faults stream.new }
     ensures heard { Hears T.gave stream.old stream.new }
     ensures fault { result ≡ Err ReadRefusal.Fault → Rose (T.faults stream.old) (T.faults stream.new) }
+    ensures calm { result ≢ Err ReadRefusal.Fault → T.faults stream.new ≡ T.faults stream.old }
 {
     let spans = match take_piece(stream, intake, heads) {
         Ok(spans) => spans,

@@ -1,4 +1,4 @@
-ghost use Rattle.std.specs.Prelude.{◌≡◌, ◌≤◌, [], Err, IfOk, IfErr};
+ghost use Rattle.std.specs.Prelude.{◌≡◌, ◌≢◌, ◌≤◌, [], Err, IfOk, IfErr};
 ghost use Rattle.uss_cause.specs.Cause.{Rose};
 ghost use Rattle.uss_http_base.specs.Prompt.{IsPrompt, ButForFaults};
 ghost use Rattle.uss_http_base.specs.Streams.{Hears};
@@ -32,6 +32,7 @@ fn take_body_at<K, T: Stream<K>>(
     ensures kept { T.faults stream.old ≤ T.faults stream.new }
     ensures heard { Hears T.gave stream.old stream.new }
     ensures fault { result ≡ Err ReadRefusal.Fault → Rose (T.faults stream.old) (T.faults stream.new) }
+    ensures calm { result ≢ Err ReadRefusal.Fault → T.faults stream.new ≡ T.faults stream.old }
 {
     match end {
         BodyEnd::Framed(framing) => take_body(alloc, stream, intake, framing),
@@ -50,6 +51,7 @@ pub fn take_response<K, T: Stream<K>>(
     ensures prompt { ButForFaults result (IsPrompt T.gave stream.old [] stream.new IsOpen) }
     ensures kept { T.faults stream.old ≤ T.faults stream.new }
     ensures fault { result ≡ Err ReadRefusal.Fault → Rose (T.faults stream.old) (T.faults stream.new) }
+    ensures calm { result ≢ Err ReadRefusal.Fault → T.faults stream.new ≡ T.faults stream.old }
 {
     let mut intake = match Intake::new(alloc) {
         Ok(intake) => intake,

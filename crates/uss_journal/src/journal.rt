@@ -47,6 +47,7 @@ impl<D: Disk> Journal<D> {
         ensures refused { IfErr result (λ r. MountRefused (D.fault_count disk) (D.fault_count r.back) r.refusal) }
         ensures unspent { IfOk result (λ j. (j.spent ≡ None) × (j.tried ≡ None)) }
         ensures count { D.fault_count disk ≤ D.fault_count (disk_after result) }
+        ensures calm { IfOk result (λ j. D.fault_count j.disk ≡ D.fault_count disk) }
         ensures honest { D.is_honest (disk_after result) ↔ D.is_honest disk }
 
         // On an honest disk, by the bytes.
@@ -81,6 +82,7 @@ impl<D: Disk> Journal<D> {
         ensures answer { MatchResult result (λ _. Appended self.old bytes.now self.new)
             (λ r. AppendRefused D.fault_count self.old bytes.now r self.new) }
         ensures count { D.fault_count self.old.disk ≤ D.fault_count self.new.disk }
+        ensures calm { OnOk result (D.fault_count self.new.disk ≡ D.fault_count self.old.disk) }
         ensures honest { D.is_honest self.new.disk ↔ D.is_honest self.old.disk }
 
         // A crash at any moment of it leaves the records before it, or these with the new one in whole; after Ok only the
@@ -113,6 +115,7 @@ impl<D: Disk> Journal<D> {
         ensures answer { MatchResult result (λ _. (self.new.spent ≡ None) × (self.new.tried ≡ None))
             (λ r. RemountRefused D.fault_count self.old r self.new) }
         ensures count { D.fault_count self.old.disk ≤ D.fault_count self.new.disk }
+        ensures calm { OnOk result (D.fault_count self.new.disk ≡ D.fault_count self.old.disk) }
         ensures honest { D.is_honest self.new.disk ↔ D.is_honest self.old.disk }
 
         // On an honest disk, by the bytes: these are the known records, or these with the one that was tried.

@@ -17,6 +17,7 @@ use uss_disk::{Disk, DiskFault};
 /// Syncs, and reads the journal that the file holds. A file of at most nine bytes is made a new, empty journal.
 pub(crate) fn load<D: Disk>(alloc: Global, disk: &mut D) -> Result<Known, JournalRefusal>
     ensures refused { IfErr result (MountRefused (D.fault_count disk.old) (D.fault_count disk.new)) }
+    ensures calm { OnOk result (D.fault_count disk.new ≡ D.fault_count disk.old) }
     ensures count { D.fault_count disk.old ≤ D.fault_count disk.new }
     ensures honest { D.is_honest disk.new ↔ D.is_honest disk.old }
     ensures gated { IfOk result (λ k. Gated k.bytes.items k.gates.items k.last) }
@@ -45,6 +46,7 @@ pub(crate) fn load<D: Disk>(alloc: Global, disk: &mut D) -> Result<Known, Journa
 fn make<D: Disk>(alloc: Global, disk: &mut D, len: u64) -> Result<Known, JournalRefusal>
     requires { D.is_honest disk.old → len ≡ length (bytes_of (D.reads disk.old)) }
     ensures refused { IfErr result (MountRefused (D.fault_count disk.old) (D.fault_count disk.new)) }
+    ensures calm { OnOk result (D.fault_count disk.new ≡ D.fault_count disk.old) }
     ensures count { D.fault_count disk.old ≤ D.fault_count disk.new }
     ensures honest { D.is_honest disk.new ↔ D.is_honest disk.old }
     ensures file { D.is_honest disk.old → OnOk result (bytes_of (D.reads disk.new) ≡ new_journal) }

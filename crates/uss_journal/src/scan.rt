@@ -22,6 +22,7 @@ pub(crate) fn scan<D: Disk>(alloc: Global, disk: &mut D, len: u64) -> Result<Kno
     requires measured { D.is_honest disk.old → len ≡ length (bytes_of (D.reads disk.old)) }
     ensures looked { OnlyLooked D.reads D.may_leave D.moment D.left_since D.is_honest D.fault_count disk.old disk.new }
     ensures refused { IfErr result (MountRefused (D.fault_count disk.old) (D.fault_count disk.new)) }
+    ensures calm { OnOk result (D.fault_count disk.new ≡ D.fault_count disk.old) }
     ensures gated { IfOk result (λ k. Gated k.bytes.items k.gates.items k.last) }
     ensures whole { IfOk result (λ k. length k.bytes.items ≡ k.last + 1) }
     ensures front { D.is_honest disk.old → IfOk result (λ k. IsFront k.bytes.items (bytes_of (D.reads disk.old))) }
@@ -41,6 +42,7 @@ fn begin<D: Disk>(alloc: Global, disk: &mut D, len: u64) -> Result<Known, Journa
     requires measured { D.is_honest disk.old → len ≡ length (bytes_of (D.reads disk.old)) }
     ensures looked { OnlyLooked D.reads D.may_leave D.moment D.left_since D.is_honest D.fault_count disk.old disk.new }
     ensures refused { IfErr result (MountRefused (D.fault_count disk.old) (D.fault_count disk.new)) }
+    ensures calm { OnOk result (D.fault_count disk.new ≡ D.fault_count disk.old) }
     ensures leads { IfOk result (λ k. Leads k.bytes.items k.gates.items k.last) }
     ensures within { IfOk result (λ k. vec_len k.bytes ≤ len) }
     ensures front { D.is_honest disk.old → IfOk result (λ k. IsFront k.bytes.items (bytes_of (D.reads disk.old))) }
@@ -80,6 +82,7 @@ fn step<D: Disk>(disk: &mut D, known: &mut Known, len: u64) -> Result<(), Journa
     requires within { vec_len known.old.bytes ≤ len }
     ensures looked { OnlyLooked D.reads D.may_leave D.moment D.left_since D.is_honest D.fault_count disk.old disk.new }
     ensures refused { IfErr result (MountRefused (D.fault_count disk.old) (D.fault_count disk.new)) }
+    ensures calm { OnOk result (D.fault_count disk.new ≡ D.fault_count disk.old) }
     ensures leads { OnOk result (Leads known.new.bytes.items known.new.gates.items known.new.last) }
     ensures further { OnOk result (known.old.last < known.new.last) }
     ensures within { OnOk result (vec_len known.new.bytes ≤ len) }
@@ -110,6 +113,7 @@ fn next<D: Disk>(
     requires within { vec_len bytes.old ≤ len }
     ensures looked { OnlyLooked D.reads D.may_leave D.moment D.left_since D.is_honest D.fault_count disk.old disk.new }
     ensures refused { IfErr result (MountRefused (D.fault_count disk.old) (D.fault_count disk.new)) }
+    ensures calm { OnOk result (D.fault_count disk.new ≡ D.fault_count disk.old) }
     ensures kept { IsFront bytes.old.items bytes.new.items }
     ensures within { OnOk result (vec_len bytes.new ≤ len) }
     ensures found { IfOk result (λ n. n ≡ next_gate bytes.new.items gate) }
@@ -156,6 +160,7 @@ fn read_up_to<D: Disk>(
     requires within { vec_len bytes.old ≤ len }
     ensures looked { OnlyLooked D.reads D.may_leave D.moment D.left_since D.is_honest D.fault_count disk.old disk.new }
     ensures refused { IfErr result (MountRefused (D.fault_count disk.old) (D.fault_count disk.new)) }
+    ensures calm { OnOk result (D.fault_count disk.new ≡ D.fault_count disk.old) }
     ensures kept { IsFront bytes.old.items bytes.new.items }
     ensures within { OnOk result (vec_len bytes.new ≤ len) }
     ensures reached { OnOk result (end ≤ vec_len bytes.new) }

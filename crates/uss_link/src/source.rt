@@ -53,6 +53,7 @@ fn read_on<S: Source>(
     requires { 0 < length piece.old }
     ensures kept { S.faults input.old ≤ S.faults input.new }
     ensures fault { IsErrOf result ReadWholeRefusal.Fault → Rose (S.faults input.old) (S.faults input.new) }
+    ensures calm { result ≢ Err ReadWholeRefusal.Fault → S.faults input.new ≡ S.faults input.old }
     ensures possible { result ≢ Err ReadWholeRefusal.TooLarge }
     ensures count { IfOk result (λ n. length bytes.new.items ≡ length bytes.old.items + n) }
     ensures few { IfOk result (λ n. n ≤ length piece.old) }
@@ -77,6 +78,7 @@ pub fn read_whole<S: Source>(
 ) -> Result<Vec<u8>, ReadWholeRefusal>
     ensures kept { S.faults input.old ≤ S.faults input.new }
     ensures fault { IsErrOf result ReadWholeRefusal.Fault → Rose (S.faults input.old) (S.faults input.new) }
+    ensures calm { result ≢ Err ReadWholeRefusal.Fault → S.faults input.new ≡ S.faults input.old }
     ensures short { IfOk result (λ bytes. length bytes.items ≤ limit) }
 
     // where the source tells what it has left, it is all of that, and too much exactly where that is

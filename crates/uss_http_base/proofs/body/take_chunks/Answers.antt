@@ -1,4 +1,4 @@
-use Rattle.std.proofs.Common.{refl, arith}
+use Rattle.std.proofs.Common.{◌∙◌, refl}
 use Rattle.uss_http_base.proofs.Passing.{hears_then}
 use Rattle.uss_http_base.proofs.BodySteps.{chunks_more, chunks_end, chunk_missing}
 use Rattle.uss_http_base.proofs.BodySteps.{chunks_prompt}
@@ -13,7 +13,7 @@ chunks-preserved g c =
       taken = chunks_more g.T.Stream.gave c.args.stream.now c.chunks.stream c.take_chunk.new.stream c.args.intake.now c.chunks.intake c.take_chunk.new.intake c.chunks.body.items c.take_chunk.new.body.items c.chunks.invariant.taken one;
       prompt = chunks_prompt g.T.Stream.gave c.args.stream.now c.chunks.stream c.take_chunk.new.stream c.args.intake.now c.chunks.intake c.chunks.body.items c.chunks.invariant.taken c.chunks.invariant.prompt c.in-Ok-Chunk.ensures.prompt;
       heard = hears_then c.chunks.invariant.heard c.take_chunk.ensures.heard;
-      kept = omega (arith, c.chunks.invariant.kept, c.take_chunk.ensures.kept);
+      calm = c.in-Ok-Chunk.ensures.calm (λ e. cc) ∙ c.chunks.invariant.calm;
     }
 
 pub returns-in-Ok-Last-clause-taken : goal.returns-in-Ok-Last-clause-taken

@@ -1,4 +1,4 @@
-use Rattle.std.proofs.Common.{◌≤◌, ◌-◌, length}
+use Rattle.std.proofs.Common.{◌≡◌, ◌≤◌, ◌-◌, length}
 use Rattle.uss_http_base.specs.Fields.{body_limit}
 use Rattle.uss_http_base.specs.Chunks.{IsCutOff, StopsWhere}
 use Rattle.uss_http_base.specs.ChunkAnswers.{TakesChunks}
@@ -12,7 +12,7 @@ invariant-chunks g l = record {
   taken : TakesChunks g.T.Stream.gave l.fn.stream l.fn.intake l.stream l.intake l.body.items;
   prompt : IsPrompt g.T.Stream.gave l.fn.stream l.fn.intake l.stream (StopsWhere IsCutOff);
   heard : Hears g.T.Stream.gave l.fn.stream l.stream;
-  kept : g.T.Stream.faults l.fn.stream ≤ g.T.Stream.faults l.stream;
+  calm : g.T.Stream.faults l.stream ≡ g.T.Stream.faults l.fn.stream;
 }
 
 abbrev pub decreases-chunks : goal.decreases-chunks

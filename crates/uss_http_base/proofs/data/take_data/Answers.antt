@@ -19,7 +19,7 @@ moving-preserved g c =
       empty = λ more. past.same ∙ empty;
       prompt = moved_open gave c.args.stream.now c.moving.stream c.read_past.new.stream c.args.intake.now c.moving.intake c.args.body.now.items c.moving.body.items c.read_past.new.body.items c.args.count c.moving.missing c.in-Ok.came was.moves empty c.moving-test.true was.some_left past.adds past.one_call;
       heard = hears_then was.heard past.heard;
-      kept = omega (arith, was.kept, past.kept);
+      calm = past.calm (λ e. cc) ∙ was.calm;
     }
 
 pub returns-then-came-eq0-clause-cut : goal.returns-then-came-eq0-clause-cut

@@ -10,7 +10,7 @@ invariant-moving g l = record {
   empty : 0 < l.missing → l.intake ≡ [];
   prompt : IsPrompt g.T.Stream.gave l.fn.stream l.fn.intake l.stream (λ seen. length seen < l.count);
   heard : Hears g.T.Stream.gave l.fn.stream l.stream;
-  kept : g.T.Stream.faults l.fn.stream ≤ g.T.Stream.faults l.stream;
+  calm : g.T.Stream.faults l.stream ≡ g.T.Stream.faults l.fn.stream;
 }
 
 abbrev pub decreases-moving : goal.decreases-moving

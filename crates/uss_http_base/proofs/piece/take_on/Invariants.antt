@@ -1,4 +1,4 @@
-use Rattle.std.proofs.Common.{◌+◌, ◌≤◌, ◌<◌, ◌-◌, length}
+use Rattle.std.proofs.Common.{◌≡◌, ◌+◌, ◌≤◌, ◌<◌, ◌-◌, length}
 use Rattle.uss_http_base.specs.Pieces.{piece_limit}
 use Rattle.uss_http_base.specs.Prompt.{GrowsBy, call_limit}
 use Rattle.uss_http_base.specs.Streams.{Hears, Passes}
@@ -13,7 +13,7 @@ invariant-taking g l = record {
   before : l.before ≤ length l.intake;
   passes : Passes g.T.Stream.gave l.fn.stream l.fn.intake l.stream l.intake;
   heard : Hears g.T.Stream.gave l.fn.stream l.stream;
-  kept : g.T.Stream.faults l.fn.stream ≤ g.T.Stream.faults l.stream;
+  calm : g.T.Stream.faults l.stream ≡ g.T.Stream.faults l.fn.stream;
 }
 
 abbrev pub decreases-taking : goal.decreases-taking

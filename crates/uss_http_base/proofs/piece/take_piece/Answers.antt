@@ -1,4 +1,4 @@
-use Rattle.std.proofs.Common.{refl, arith}
+use Rattle.std.proofs.Common.{◌∙◌, refl, arith}
 use Rattle.uss_http_base.proofs.Passing.{passes_then, hears_then}
 use Rattle.uss_http_base.proofs.Prompting.{look_then, look_end}
 use Rattle.uss_http_base.proofs.piece.take_piece.Goals as goal
@@ -10,7 +10,7 @@ looking-preserved g c =
       passes = passes_then c.looking.invariant.passes lines.passes;
       prompt = look_then g.T.Stream.gave c.args.stream.now c.looking.stream c.take_on.new.stream c.args.intake.now c.looking.intake c.take_on.new.intake c.front.result.now g.P.Piece.unfinished c.looking.invariant.passes c.front.ensures.value c.in-NotYet.ensures (omega arith) lines.passes lines.doubled (lines.near (omega arith));
       heard = hears_then c.looking.invariant.heard c.take_on.ensures.heard;
-      kept = omega (arith, c.looking.invariant.kept, c.take_on.ensures.kept);
+      calm = lines.calm (λ e. cc) ∙ c.looking.invariant.calm;
     }
 
 pub returns-in-Ok-End-clause-prompt : goal.returns-in-Ok-End-clause-prompt

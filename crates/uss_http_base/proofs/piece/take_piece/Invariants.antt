@@ -1,4 +1,4 @@
-use Rattle.std.proofs.Common.{◌<◌, ◌≤◌, ◌-◌, length}
+use Rattle.std.proofs.Common.{◌≡◌, ◌<◌, ◌-◌, length}
 use Rattle.uss_http_base.specs.Pieces.{piece_limit}
 use Rattle.uss_http_base.specs.Prompt.{IsPrompt}
 use Rattle.uss_http_base.specs.Streams.{Hears, Passes}
@@ -9,7 +9,7 @@ invariant-looking g l = record {
   passes : Passes g.T.Stream.gave l.fn.stream l.fn.intake l.stream l.intake;
   prompt : IsPrompt g.T.Stream.gave l.fn.stream l.fn.intake l.stream (λ seen. (length seen < piece_limit) × g.P.Piece.unfinished seen);
   heard : Hears g.T.Stream.gave l.fn.stream l.stream;
-  kept : g.T.Stream.faults l.fn.stream ≤ g.T.Stream.faults l.stream;
+  calm : g.T.Stream.faults l.stream ≡ g.T.Stream.faults l.fn.stream;
 }
 
 abbrev pub decreases-looking : goal.decreases-looking

@@ -1,4 +1,4 @@
-use Rattle.std.proofs.Common.{arith, subst, sym}
+use Rattle.std.proofs.Common.{◌∙◌, arith, subst, sym}
 use Rattle.std.specs.Prelude.{List, ℕ}
 use Rattle.uss_http_base.specs.Streams.{Passes}
 use Rattle.uss_http_base.proofs.Passing.{passes_then, hears_then}
@@ -16,5 +16,5 @@ taking-preserved g c =
       passes = subst (λ (bytes : List ℕ). Passes g.T.Stream.gave c.args.stream.now c.args.intake.now c.read_past.new.stream bytes) (sym past.adds.added) (passes_then was.passes (past.adds.passes c.taking.body.items));
       prompt = rest_open g.T.Stream.gave c.args.stream.now c.taking.stream c.read_past.new.stream c.args.intake.now c.taking.body.items c.read_past.new.body.items c.in-Ok-read_past.field-0 was.passes (omega arith) past.adds past.one_call;
       heard = hears_then was.heard past.heard;
-      kept = omega (arith, was.kept, past.kept);
+      calm = past.calm (λ e. cc) ∙ was.calm;
     }

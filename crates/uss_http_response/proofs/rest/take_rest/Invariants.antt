@@ -1,4 +1,4 @@
-use Rattle.std.proofs.Common.{◌≤◌, ◌-◌, length}
+use Rattle.std.proofs.Common.{◌≡◌, ◌≤◌, ◌-◌, length}
 use Rattle.uss_http_base.specs.Fields.{body_limit}
 use Rattle.uss_http_base.specs.Prompt.{IsPrompt}
 use Rattle.uss_http_base.specs.Streams.{Hears, Passes}
@@ -9,7 +9,7 @@ invariant-taking g l = record {
   passes : Passes g.T.Stream.gave l.fn.stream l.fn.intake l.stream l.body.items;
   prompt : IsPrompt g.T.Stream.gave l.fn.stream l.fn.intake l.stream (λ seen. length seen ≤ body_limit);
   heard : Hears g.T.Stream.gave l.fn.stream l.stream;
-  kept : g.T.Stream.faults l.fn.stream ≤ g.T.Stream.faults l.stream;
+  calm : g.T.Stream.faults l.stream ≡ g.T.Stream.faults l.fn.stream;
 }
 
 abbrev pub decreases-taking : goal.decreases-taking

@@ -1,10 +1,10 @@
-use Rattle.std.proofs.Common.{arith}
+use Rattle.std.proofs.Common.{◌∙◌, arith}
 use Rattle.std.proofs.lemmas.List.{take_rest}
 use Rattle.uss_link.proofs.Sending.{sent_more, sent_same, sent_all, over_more, over_same, over_all}
 use Rattle.uss_link.proofs.dial.send_all.Goals as goal
 
 pub loop-done-preserved : goal.loop-done-preserved
-loop-done-preserved g c = (omega (arith, c.in-Ok.ensures.bytes.within), omega (arith, c.in-Ok.ensures.counts.kept), sent_more _ _ _ _ _ _ _ c.loop-done.invariant.2 c.loop-done-test.true (take_rest c.args.bytes.now c.loop-done.done) c.in-Ok.ensures.bytes, over_more _ _ _ _ _ _ c.loop-done.invariant.3 c.in-Ok.ensures.stream)
+loop-done-preserved g c = (omega (arith, c.in-Ok.ensures.bytes.within), c.in-Ok.ensures.counts.calm ∙ c.loop-done.invariant.1, sent_more _ _ _ _ _ _ _ c.loop-done.invariant.2 c.loop-done-test.true (take_rest c.args.bytes.now c.loop-done.done) c.in-Ok.ensures.bytes, over_more _ _ _ _ _ _ c.loop-done.invariant.3 c.in-Ok.ensures.stream)
 
 pub returns-in-Err-clause-front : goal.returns-in-Err-clause-front
 returns-in-Err-clause-front g c talks is = (c.loop-done.done, sent_same _ _ _ _ _ _ _ c.loop-done.invariant.2 c.in-Err.ensures.bytes talks is)

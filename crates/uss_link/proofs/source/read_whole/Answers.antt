@@ -19,6 +19,6 @@ pub loop-bytes-preserved : goal.loop-bytes-preserved
 loop-bytes-preserved g c = (
   omega arith,
   room_stays _ _ _ (c.loop-bytes.piece.ok.0) (let h : length c.read_on.new.piece ≡ c.loop-bytes.piece.len = omega (arith, c.read_on.auto.piece, c.as_mut_slice.ensures.len, c.as_mut_slice.ensures.value, c.loop-bytes.piece.ok.0) in h) ∙ c.loop-bytes.invariant.1,
-  omega (arith, c.in_ok-count.ensures.kept),
+  c.in_ok-count.ensures.calm (λ e. cc) ∙ c.loop-bytes.invariant.2,
   gave_more _ _ _ _ _ _ c.loop-bytes.invariant.3 (record { told = c.in_ok-count.ensures.told }),
 )
