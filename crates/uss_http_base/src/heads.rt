@@ -1,4 +1,4 @@
-ghost use Rattle.std.specs.Prelude.{◌≡◌, ◌≢◌, ◌≤◌, List, length, map, All, Err, IfOk, IfErr};
+ghost use Rattle.std.specs.Prelude.{◌≡◌, ◌≢◌, ◌≤◌, List, length, map, All, Err, IfOk, IfErr, IfSome, IsSome};
 ghost use Rattle.httparse.specs.Spans.{IsRequestOf, IsRequestWithin, IsWithin, IsHeaderWithin, span_bytes, header_bytes};
 ghost use Rattle.uss_cause.specs.Cause.{Rose};
 ghost use Rattle.uss_http_base.specs.Heads.{IsOpenHead, BeginsNoHead};
@@ -15,8 +15,8 @@ use crate::piece::{Look, Piece, take_piece};
 use crate::refusal::ReadRefusal;
 use crate::stream::Stream;
 use crate::target::ends_in_target;
-use httparse::Status;
 use httparse::spans::{EMPTY_HEADER_SPAN, HeaderSpan, RequestSpans, Span, parse_request};
+use httparse::{Error, Status};
 use std::alloc::{AllocError, Global};
 use std::marker::Model;
 use uss_intent::{Name, Sequence};
@@ -27,21 +27,25 @@ pub type Bytes = Sequence<u8>;
 /// Room for the fields of a head: as many as 16 KiB can have, so that there are never too many.
 pub const ROOM: usize = 5462;
 
-/// Heads of requests, with the places of the fields of the last one that was found.
+/// Room for the fields at first: few heads have more.
+const FIRST_ROOM: usize = 64;
+
+/// Heads of requests, with the places of the fields of the last one that was found. There is memory for all places from
+/// the start; those behind the first are made only where a head has more fields.
 #[derive(Drop)]
 pub struct RequestHeads {
     headers: Vec<HeaderSpan>,
 }
 
 impl Model for RequestHeads {
-    ghost use Rattle.std.specs.Prelude.{◌≡◌, List, length};
+    ghost use Rattle.std.specs.Prelude.{◌≤◌, List, vec_capacity};
     ghost use Rattle.httparse.specs.declared.spans.HeaderSpan.{HeaderSpan};
 
     ghost Value = { List HeaderSpan };
 
     ghost view = { λ h. h.headers.items };
 
-    ghost invariant = { λ h. length h.headers.items ≡ 5462 };
+    ghost invariant = { λ h. 5462 ≤ vec_capacity h.headers };
 }
 
 /// So many empty places.
@@ -54,8 +58,17 @@ pub fn places(alloc: Global, count: usize) -> Result<Vec<HeaderSpan>, AllocError
 impl RequestHeads {
     /// No head was found yet.
     pub fn new(alloc: Global) -> Result<RequestHeads, AllocError> {
-        let headers = places(alloc, ROOM)?;
+        let mut headers = Vec::with_capacity(alloc, ROOM)?;
+        headers.resize(FIRST_ROOM, EMPTY_HEADER_SPAN)?;
         Ok(RequestHeads { headers })
+    }
+
+    /// Makes all places.
+    fn make_room(&mut self)
+        ensures { length self.new ≡ 5462 }
+    {
+        let made = self.headers.resize(ROOM, EMPTY_HEADER_SPAN).is_ok();
+        prove!(made);
     }
 
     /// The places of the fields.
@@ -78,7 +91,14 @@ impl Piece for RequestHeads {
     ghost never = { λ _ bytes. BeginsNoHead bytes };
 
     fn look(&mut self, bytes: &[u8]) -> Look<RequestSpans> {
-        look_for_head(bytes, self.headers.as_mut_slice())
+        if let Some(look) = look_for_head(bytes, self.headers.as_mut_slice()) {
+            return look;
+        }
+        self.make_room();
+        match look_for_head(bytes, self.headers.as_mut_slice()) {
+            Some(look) => look,
+            None => unreachable!(),
+        }
     }
 
     fn may_end(&self, bytes: &[u8], from: usize) -> bool {
@@ -86,17 +106,18 @@ impl Piece for RequestHeads {
     }
 }
 
-/// What the bytes show of a head at their front.
-fn look_for_head(bytes: &[u8], headers: &mut [HeaderSpan]) -> Look<RequestSpans>
-    requires limit { length bytes.now ≤ piece_limit }
-    requires room { length headers.old ≡ 5462 }
-    ensures { MatchLook result (λ spans. IsRequestOf bytes.now headers.new spans × IsRequestWithin bytes.now headers.new spans) (IsOpenHead bytes.now) (BeginsNoHead bytes.now) }
+/// What the bytes show of a head at their front, or none where there are fewer places than it may have fields.
+fn look_for_head(bytes: &[u8], headers: &mut [HeaderSpan]) -> Option<Look<RequestSpans>>
+    requires { length bytes.now ≤ piece_limit }
+    ensures look { IfSome result (λ look. MatchLook look (λ spans. IsRequestOf bytes.now headers.new spans × IsRequestWithin bytes.now headers.new spans) (IsOpenHead bytes.now) (BeginsNoHead bytes.now)) }
+    ensures room { length headers.old ≡ 5462 → IsSome result }
 {
     match parse_request(bytes, headers) {
-        Ok(Status::Complete(spans)) => Look::Whole(spans),
-        Ok(Status::Partial) => Look::NotYet,
-        Err(_) if ends_in_target(bytes) => Look::NotYet,
-        Err(_) => Look::Never,
+        Ok(Status::Complete(spans)) => Some(Look::Whole(spans)),
+        Ok(Status::Partial) => Some(Look::NotYet),
+        Err(Error::TooManyHeaders) => None,
+        Err(_) if ends_in_target(bytes) => Some(Look::NotYet),
+        Err(_) => Some(Look::Never),
     }
 }
 

@@ -230,17 +230,52 @@ fn requests_are_read_or_refused(rt: HostRuntime) -> Result<(), Fail> {
     Ok(())
 }
 
-/// The number of the answer to a head with a field of so many bytes; 40 bytes stand round them.
-fn long_head(alloc: Global, filling: usize) -> u16 {
-    match filled(alloc, b"GET / HTTP/1.1|USS-Client: uss1|A:", filling, b"||") {
+/// The number of the answer to a row, so many letters and another row.
+fn stretched(alloc: Global, row: &[u8], count: usize, rest: &[u8]) -> u16 {
+    match filled(alloc, row, count, rest) {
         Ok(bytes) => number(alloc, bytes.as_slice(), 1000, 0),
         Err(AllocError) => 2,
     }
 }
 
-/// The number of the answer to so many letters.
-fn letters(alloc: Global, count: usize) -> u16 {
-    match filled(alloc, b"", count, b"") {
+/// The number of the answer to a head with a field of so many bytes; 40 bytes stand round them.
+fn long_head(alloc: Global, filling: usize) -> u16 {
+    stretched(alloc, b"GET / HTTP/1.1|USS-Client: uss1|A:", filling, b"||")
+}
+
+/// The number of the answer to a size line with so many bytes behind its size; 4 bytes stand round them.
+fn long_size_line(alloc: Global, filling: usize) -> u16 {
+    stretched(
+        alloc,
+        b"GET / HTTP/1.1|USS-Client: uss1|Transfer-Encoding: chunked||5;",
+        filling,
+        b"|hello|0||",
+    )
+}
+
+/// The number of the answer to trailers with a field of so many bytes; 6 bytes stand round them.
+fn long_trailers(alloc: Global, filling: usize) -> u16 {
+    stretched(
+        alloc,
+        b"GET / HTTP/1.1|USS-Client: uss1|Transfer-Encoding: chunked||0|A:",
+        filling,
+        b"||",
+    )
+}
+
+/// A head with so many fields of three bytes; 35 bytes stand round them.
+fn head_of_fields(alloc: Global, count: usize) -> Result<Vec<u8>, AllocError> {
+    let mut bytes = bytes_of(alloc, b"GET / HTTP/1.1|USS-Client: uss1|")?;
+    for _ in 0..count {
+        bytes.extend_from_slice(b"A:\n")?;
+    }
+    bytes.extend_from_slice(b"\n")?;
+    Ok(bytes)
+}
+
+/// The number of the answer to a head with so many fields of three bytes.
+fn many_fields(alloc: Global, count: usize) -> u16 {
+    match head_of_fields(alloc, count) {
         Ok(bytes) => number(alloc, bytes.as_slice(), 1000, 0),
         Err(AllocError) => 2,
     }
@@ -263,7 +298,18 @@ fn limits_and_faults(rt: HostRuntime) -> Result<(), Fail> {
     assert_eq!(rt; long_head(alloc, 16344), 200);
     assert_eq!(rt; long_head(alloc, 16345), 431);
     assert_eq!(rt; long_head(alloc, 20000), 431);
-    assert_eq!(rt; letters(alloc, 16384), 431);
+    assert_eq!(rt; stretched(alloc, b"", 16384, b""), 431);
+    // fewer fields than there is room for at first, as many, more, and as many as a head can have
+    assert_eq!(rt; many_fields(alloc, 62), 200);
+    assert_eq!(rt; many_fields(alloc, 63), 200);
+    assert_eq!(rt; many_fields(alloc, 64), 200);
+    assert_eq!(rt; many_fields(alloc, 5449), 200);
+    assert_eq!(rt; many_fields(alloc, 5450), 431);
+    // 16 KiB, and one more
+    assert_eq!(rt; long_size_line(alloc, 16380), 200);
+    assert_eq!(rt; long_size_line(alloc, 16381), 434);
+    assert_eq!(rt; long_trailers(alloc, 16378), 200);
+    assert_eq!(rt; long_trailers(alloc, 16379), 434);
     // the same bytes, and then the end or a fault
     assert_eq!(rt; cut_body(alloc, 0), 435);
     assert_eq!(rt; cut_body(alloc, 2), 1);
@@ -291,11 +337,11 @@ fn has_body(alloc: Global, row: &[u8], piece: usize, body: &[u8]) -> bool {
     }
 }
 
-/// Whether a body of so many bytes is read whole.
-fn has_large_body(alloc: Global, row: &[u8], count: usize) -> bool {
+/// Whether a body of 8 MiB is read whole where so many of its bytes stand between these rows.
+fn has_large_body(alloc: Global, row: &[u8], count: usize, rest: &[u8]) -> bool {
     let (Ok(bytes), Ok(body)) = (
-        filled(alloc, row, count, b""),
-        filled(alloc, b"", count, b""),
+        filled(alloc, row, count, rest),
+        filled(alloc, b"", 8388608, b""),
     ) else {
         return false;
     };
@@ -332,7 +378,16 @@ fn bodies_are_those_that_were_sent(rt: HostRuntime) -> Result<(), Fail> {
         has_large_body(
             alloc,
             b"POST /a?b HTTP/1.1|USS-Client: uss1|Content-Length: 8388608||",
-            8388608
+            8388608,
+            b""
+        )
+    );
+    assert!(rt;
+        has_large_body(
+            alloc,
+            b"POST /a?b HTTP/1.1|USS-Client: uss1|Transfer-Encoding: chunked||5|xxxxx|7ffffb|",
+            8388603,
+            b"|0||"
         )
     );
     Ok(())
