@@ -1,4 +1,4 @@
-ghost use Rattle.std.specs.Prelude.{◌≡◌, ℕ, ◌+◌, ◌≤◌, ◌⊎◌, ◌++◌, List, length, Some, Err, codes, decimal, IfOk, IfErr, OnOk, OnErr};
+ghost use Rattle.std.specs.Prelude.{◌≡◌, ◌≢◌, ℕ, ◌+◌, ◌≤◌, ◌⊎◌, ◌++◌, List, length, Some, Err, codes, decimal, IfOk, IfErr, OnOk, OnErr};
 ghost use Rattle.arrayvec.specs.ArrayVec.{array_vec_len};
 ghost use Rattle.uss_cause.specs.Cause.{Counts, Rose};
 ghost use Rattle.uss_link.specs.Bytes.{TookFront};
@@ -72,6 +72,7 @@ pub fn write_request<G: Dial>(
     ensures kept { G.faults dial.old ≤ G.faults dial.new }
     ensures causes { IfErr result (λ e. (e ≡ HttpRefusal.DialFault) ⊎ (e ≡ HttpRefusal.Memory)) }
     ensures fault { result ≡ Err HttpRefusal.DialFault → Rose (G.faults dial.old) (G.faults dial.new) }
+    ensures calm { result ≢ Err HttpRefusal.DialFault → G.faults dial.new ≡ G.faults dial.old }
 {
     let head = match head_bytes(alloc, host, request) {
         Ok(head) => head,
