@@ -17,5 +17,5 @@ mod tests;
 mod values;
 
 pub use coding::{read, write};
-pub use law::{codings_have_their_length, one_coding_each, worked_codings};
+pub use law::{codings_have_their_length, further_worked_codings, one_coding_each, worked_codings};
 pub use lengths::{length_of, opening_length};

@@ -102,3 +102,23 @@ fn broken_codings_are_none(rt: HostRuntime) -> Result<(), Fail> {
     }
     Ok(())
 }
+
+/// A decision after a stale key, with so many missing flights.
+fn stale(alloc: Global, count: u32) -> Result<Vec<u8>, Fail> {
+    let mut bytes = Vec::new(alloc);
+    bytes.extend_from_slice(b"\x06\x00\x00\x00\x00\x00\x00\x00\x01\x02")?;
+    bytes.extend_from_slice(&count.to_be_bytes())?;
+    for _ in 0..count {
+        bytes.extend_from_slice(&[9; 16])?;
+    }
+    Ok(bytes)
+}
+
+#[test]
+fn a_stale_key_lacks_at_most_4096_flights(rt: HostRuntime) -> Result<(), Fail> {
+    let most = stale(rt.alloc(), 4096)?;
+    assert!(rt; comes_back(rt.alloc(), &most)?);
+    let more = stale(rt.alloc(), 4097)?;
+    assert!(rt; read(rt.alloc(), &more)?.is_none());
+    Ok(())
+}

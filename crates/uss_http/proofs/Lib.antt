@@ -1,3 +1,4 @@
+pub mod HeadSteps
 pub mod PieceSteps
 pub mod ReadSteps
 pub mod SendSteps

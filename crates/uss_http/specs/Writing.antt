@@ -31,3 +31,7 @@ rest_text response =
 
 abbrev pub response_text : Response → List ℕ
 response_text response = status_text response.status ++ rest_text response
+
+-- the body that is sent: a 204 has none
+abbrev pub body_text : Response → List ℕ
+body_text response = if response.status == 204 then [] else response.body

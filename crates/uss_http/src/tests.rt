@@ -70,7 +70,7 @@ fn requests_that_are_sent_are_read_again(rt: HostRuntime) -> Result<(), Fail> {
 }
 
 /// Statuses, bodies, and the responses that are written of them.
-const RESPONSES: [(u16, &str, &str); 3] = [
+const RESPONSES: [(u16, &str, &str); 4] = [
     (
         404,
         "{\"a\":1}",
@@ -83,11 +83,24 @@ Connection: close\r\n\r\n{\"a\":1}",
         "HTTP/1.1 204 No Content\r\nConnection: close\r\n\r\n",
     ),
     (
+        431,
+        "{}",
+        "HTTP/1.1 431 Request Header Fields Too Large\r\nContent-Type: application/json\r\nContent-Length: 2\r\n\
+Connection: close\r\n\r\n{}",
+    ),
+    (
         209,
         "",
         "HTTP/1.1 209 \r\nContent-Type: application/json\r\nContent-Length: 0\r\nConnection: close\r\n\r\n",
     ),
 ];
+
+/// Whether the response is written by two calls, or by one where it has no body.
+fn is_written_at_once(alloc: Global, response: &Response) -> bool {
+    let mut sink = MemorySink::new(alloc);
+    let calls = if response.body.is_empty() { 1 } else { 2 };
+    write_response(&mut sink, response).is_ok() && sink.calls() == calls
+}
 
 /// Whether the response is written so, and whether a front of it is where the third call fails.
 fn is_written(alloc: Global, status: u16, body: &str, text: &str) -> Result<bool, Fail> {
@@ -104,6 +117,7 @@ fn is_written(alloc: Global, status: u16, body: &str, text: &str) -> Result<bool
     Ok(
         whole
             && failed
+            && is_written_at_once(alloc, &response)
             && sink.taken() == text.as_bytes()
             && text.as_bytes().starts_with(broken.taken()),
     )

@@ -1,11 +1,12 @@
-ghost use Rattle.std.specs.Prelude.{◌≡◌, ℕ, ◌≤◌, ◌⊎◌, ◌++◌, List, length, Some, Err, codes, decimal, IfOk, IfErr, OnOk, OnErr};
-ghost use Rattle.std.specs.List.{flat_map};
+ghost use Rattle.std.specs.Prelude.{◌≡◌, ℕ, ◌+◌, ◌≤◌, ◌⊎◌, ◌++◌, List, length, Some, Err, codes, decimal, IfOk, IfErr, OnOk, OnErr};
+ghost use Rattle.arrayvec.specs.ArrayVec.{array_vec_len};
 ghost use Rattle.uss_cause.specs.Cause.{Counts, Rose};
 ghost use Rattle.uss_link.specs.Bytes.{TookFront};
 ghost use Rattle.uss_link.specs.Talks.{Talk, SentFront, Stays};
-ghost use Rattle.uss_http.specs.Writing.{request_text, phrase_of, rest_text, response_text};
+ghost use Rattle.uss_http.specs.Writing.{request_text, phrase_of, status_text, body_text, response_text};
 
 use crate::refusal::HttpRefusal;
+use arrayvec::ArrayVec;
 use http::StatusCode;
 use itoa::Buffer;
 use std::alloc::{AllocError, Global};
@@ -82,34 +83,16 @@ pub fn write_request<G: Dial>(
     }
 }
 
-/// Writes pieces one after the other. On a fault a front of them was written.
-fn write_pieces<K: Sink>(output: &mut K, pieces: &[&[u8]]) -> Result<(), WriteFault>
-    ensures counts { Counts (K.faults output.old) (K.faults output.new) result }
-    ensures written { (taken : List ℕ) → K.taken output.old ≡ Some taken → OnOk result (K.taken output.new ≡ Some (taken ++ flat_map (λ p. p.now) pieces.now)) }
-    ensures front { (taken : List ℕ) → K.taken output.old ≡ Some taken → OnErr result (TookFront taken (K.taken output.new) (flat_map (λ p. p.now) pieces.now)) }
-{
-    'pieces: for piece in pieces {
-        match write_all(output, piece) {
-            Ok(()) => {}
-            Err(WriteFault) => return Err(WriteFault),
-        }
-    }
-    Ok(())
-}
+/// The head of a response, gathered to be written at once. The longest has 139 bytes.
+type HeadBytes = ArrayVec<u8, 160>;
 
-/// Writes four pieces one after the other. On a fault a front of them was written.
-fn write_four<'a, K: Sink>(
-    output: &mut K,
-    first: &'a [u8],
-    second: &'a [u8],
-    third: &'a [u8],
-    fourth: &'a [u8],
-) -> Result<(), WriteFault>
-    ensures counts { Counts (K.faults output.old) (K.faults output.new) result }
-    ensures written { (taken : List ℕ) → K.taken output.old ≡ Some taken → OnOk result (K.taken output.new ≡ Some (taken ++ (first.now ++ second.now ++ third.now ++ fourth.now))) }
-    ensures front { (taken : List ℕ) → K.taken output.old ≡ Some taken → OnErr result (TookFront taken (K.taken output.new) (first.now ++ second.now ++ third.now ++ fourth.now)) }
+/// Adds a piece, for which there is room.
+fn add(head: &mut HeadBytes, piece: &[u8])
+    requires { array_vec_len head.old + length piece.now ≤ 160 }
+    ensures { head.new.items ≡ head.old.items ++ piece.now }
 {
-    write_pieces(output, &[first, second, third, fourth])
+    let added = head.try_extend_from_slice(piece).is_ok();
+    prove!(added);
 }
 
 /// The canonical phrase of a status of three digits, or none.
@@ -128,45 +111,66 @@ fn phrase(status: u16) -> &'static str
     }
 }
 
-/// Writes the line of a status. On a fault a front of it was written.
-fn write_status<K: Sink>(output: &mut K, status: u16) -> Result<(), WriteFault>
-    ensures counts { Counts (K.faults output.old) (K.faults output.new) result }
-    ensures written { (taken : List ℕ) → K.taken output.old ≡ Some taken → OnOk result (K.taken output.new ≡ Some (taken ++ (codes "HTTP/1.1 " ++ decimal status ++ codes " " ++ phrase_of status))) }
-    ensures front { (taken : List ℕ) → K.taken output.old ≡ Some taken → OnErr result (TookFront taken (K.taken output.new) (codes "HTTP/1.1 " ++ decimal status ++ codes " " ++ phrase_of status)) }
+/// The status line, without its end.
+fn status_line(status: u16) -> HeadBytes
+    ensures text { result.items ≡ status_text status }
+    ensures short { array_vec_len result ≤ 46 }
 {
     let mut number = Buffer::new();
-    let digits = number.format(status).as_bytes();
-    write_four(
-        output,
-        b"HTTP/1.1 ",
-        digits,
-        b" ",
-        phrase(status).as_bytes(),
-    )
+    let mut line = ArrayVec::new();
+    add(&mut line, b"HTTP/1.1 ");
+    add(&mut line, number.format(status).as_bytes());
+    add(&mut line, b" ");
+    add(&mut line, phrase(status).as_bytes());
+    line
 }
 
-/// Writes the fields of a response and its body. On a fault a front of these was written.
-fn write_content<K: Sink>(output: &mut K, body: &[u8]) -> Result<(), WriteFault>
-    ensures counts { Counts (K.faults output.old) (K.faults output.new) result }
-    ensures written { (taken : List ℕ) → K.taken output.old ≡ Some taken → OnOk result (K.taken output.new ≡ Some (taken ++ (codes "\r\nContent-Type: application/json\r\nContent-Length: " ++ decimal (length body.now) ++ codes "\r\nConnection: close\r\n\r\n" ++ body.now))) }
-    ensures front { (taken : List ℕ) → K.taken output.old ≡ Some taken → OnErr result (TookFront taken (K.taken output.new) (codes "\r\nContent-Type: application/json\r\nContent-Length: " ++ decimal (length body.now) ++ codes "\r\nConnection: close\r\n\r\n" ++ body.now)) }
+/// Adds the fields of a response with a body of this length.
+fn add_fields(head: &mut HeadBytes, count: usize)
+    requires { array_vec_len head.old ≤ 46 }
+    ensures { head.new.items ≡ head.old.items ++ codes "\r\nContent-Type: application/json\r\nContent-Length: " ++ decimal count ++ codes "\r\nConnection: close\r\n\r\n" }
 {
     let mut number = Buffer::new();
-    let digits = number.format(body.len()).as_bytes();
-    write_four(output, TYPE_AND_LENGTH, digits, END_OF_FIELDS, body)
+    add(head, TYPE_AND_LENGTH);
+    add(head, number.format(count).as_bytes());
+    add(head, END_OF_FIELDS);
 }
 
-/// Writes what follows the status and its phrase.
-fn write_rest<K: Sink>(output: &mut K, response: &Response) -> Result<(), WriteFault>
-    ensures counts { Counts (K.faults output.old) (K.faults output.new) result }
-    ensures written { (taken : List ℕ) → K.taken output.old ≡ Some taken → OnOk result (K.taken output.new ≡ Some (taken ++ rest_text response.now)) }
-    ensures front { (taken : List ℕ) → K.taken output.old ≡ Some taken → OnErr result (TookFront taken (K.taken output.new) (rest_text response.now)) }
+/// The bytes of a response, up to its body.
+fn response_head(response: &Response) -> HeadBytes
+    ensures { result.items ++ body_text response.now ≡ response_text response.now }
+{
+    let mut head = status_line(response.status);
+    if response.status == 204 {
+        add(&mut head, END_OF_FIELDS);
+    } else {
+        add_fields(&mut head, response.body.len());
+    }
+    head
+}
+
+/// The body of a response, as it is sent.
+fn sent_body(response: &Response) -> &[u8]
+    ensures { result.now ≡ body_text response.now }
 {
     if response.status == 204 {
-        write_all(output, END_OF_FIELDS)
+        b""
     } else {
-        write_content(output, response.body.as_slice())
+        response.body.as_slice()
     }
+}
+
+/// Writes two pieces one after the other. On a fault a front of them was written.
+fn write_both<K: Sink>(output: &mut K, first: &[u8], second: &[u8]) -> Result<(), WriteFault>
+    ensures counts { Counts (K.faults output.old) (K.faults output.new) result }
+    ensures written { (taken : List ℕ) → K.taken output.old ≡ Some taken → OnOk result (K.taken output.new ≡ Some (taken ++ (first.now ++ second.now))) }
+    ensures front { (taken : List ℕ) → K.taken output.old ≡ Some taken → OnErr result (TookFront taken (K.taken output.new) (first.now ++ second.now)) }
+{
+    match write_all(output, first) {
+        Ok(()) => {}
+        Err(WriteFault) => return Err(WriteFault),
+    }
+    write_all(output, second)
 }
 
 /// Writes a response. Takes no memory. On a fault a front of its bytes was written.
@@ -175,9 +179,6 @@ pub fn write_response<K: Sink>(output: &mut K, response: &Response) -> Result<()
     ensures written { (taken : List ℕ) → K.taken output.old ≡ Some taken → OnOk result (K.taken output.new ≡ Some (taken ++ response_text response.now)) }
     ensures front { (taken : List ℕ) → K.taken output.old ≡ Some taken → OnErr result (TookFront taken (K.taken output.new) (response_text response.now)) }
 {
-    match write_status(output, response.status) {
-        Ok(()) => {}
-        Err(WriteFault) => return Err(WriteFault),
-    }
-    write_rest(output, response)
+    let head = response_head(response);
+    write_both(output, head.as_slice(), sent_body(response))
 }
