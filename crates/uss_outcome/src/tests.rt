@@ -11,19 +11,51 @@ const REFUSALS: [(AskRefusal, &str); 12] = [
         AskRefusal::WrongTransition(State::Activated, State::Accepted),
         "refused 302 Activated Accepted",
     ),
+    (
+        AskRefusal::WrongTransition(State::Nonconforming, State::Contingent),
+        "refused 302 Nonconforming Contingent",
+    ),
     (AskRefusal::TooFar(-1), "refused 303 -1"),
     (AskRefusal::Past, "refused 304"),
     (AskRefusal::Busy(7), "refused 305 7"),
     (AskRefusal::OldNumber(8), "refused 306 8"),
-    (
-        AskRefusal::DifferentRepeat(AskField::Proposals),
-        "refused 307 Proposals",
-    ),
     (AskRefusal::NoSuchFlight, "refused 308"),
     (AskRefusal::Closed, "refused 309"),
     (AskRefusal::BookFull(1, 2), "refused 310 1 2"),
     (AskRefusal::NotAsked(9), "refused 312 9"),
     (AskRefusal::OldPosition(3), "refused 313 3"),
+];
+
+// A part of a request, and how the refusal of a repeat that differs in it is printed.
+const PARTS: [(AskField, &str); 5] = [
+    (AskField::Kind, "refused 307 Kind"),
+    (AskField::To, "refused 307 To"),
+    (AskField::Priority, "refused 307 Priority"),
+    (AskField::Rounds, "refused 307 Rounds"),
+    (AskField::Proposals, "refused 307 Proposals"),
+];
+
+// What stands against a flight, and how the answer is printed.
+const CONFLICTS: [(Verdict, &str); 3] = [
+    (
+        Verdict::Clear,
+        "conflict 00000003-0000-4000-8000-000000000004 uss2 Clear",
+    ),
+    (
+        Verdict::EqualForbidden,
+        "conflict 00000003-0000-4000-8000-000000000004 uss2 EqualForbidden",
+    ),
+    (
+        Verdict::HigherStands,
+        "conflict 00000003-0000-4000-8000-000000000004 uss2 HigherStands",
+    ),
+];
+
+// What the conformance monitor finds, and how the answer is printed.
+const FINDINGS: [(Conform, &str); 3] = [
+    (Conform::Conforming, "steady Conforming"),
+    (Conform::Nonconforming, "steady Nonconforming"),
+    (Conform::Contingent, "steady Contingent"),
 ];
 
 fn shows(alloc: Global, outcome: &Outcome, text: &str) -> Result<bool, AllocError> {
@@ -39,10 +71,78 @@ fn shows_answer(alloc: Global, answer: Answer, text: &str) -> Result<bool, Alloc
     shows(alloc, &Outcome::Answer(answer), text)
 }
 
+fn supplier(alloc: Global) -> Result<Name, AllocError> {
+    Name::of(alloc, b"uss2").map_err(|_| AllocError)
+}
+
+fn ovn(alloc: Global) -> Result<Ovn, AllocError> {
+    Ovn::of(alloc, b"ovn-0000000000000001").map_err(|_| AllocError)
+}
+
+fn planned(alloc: Global) -> Result<Answer, AllocError> {
+    Ok(Answer::Planned {
+        flight: flight_id(1, 5),
+        tag: 2,
+        alternative: 3,
+        ovn: ovn(alloc)?,
+        version: 4,
+    })
+}
+
+fn changed(alloc: Global) -> Result<Answer, AllocError> {
+    Ok(Answer::Changed {
+        flight: flight_id(1, 5),
+        tag: 6,
+        alternative: 7,
+        ovn: ovn(alloc)?,
+        version: 8,
+    })
+}
+
+fn conflict(alloc: Global, rule: Verdict) -> Result<Answer, AllocError> {
+    Ok(Answer::Conflict {
+        flight: flight_id(3, 4),
+        manager: supplier(alloc)?,
+        rule,
+    })
+}
+
+fn stale(alloc: Global) -> Result<Answer, AllocError> {
+    let mut missing = FlightIds::new(alloc);
+    missing.push(flight_id(2, 1))?;
+    missing.push(flight_id(3, 1))?;
+    Ok(Answer::Stale { missing })
+}
+
+fn peer_refused(alloc: Global) -> Result<Answer, AllocError> {
+    Ok(Answer::PeerRefused {
+        peer: supplier(alloc)?,
+        status: 404,
+    })
+}
+
+fn dss_fault(alloc: Global) -> Result<Outcome, AllocError> {
+    let mut tags = Tags::new(alloc);
+    tags.push(5)?;
+    tags.push(4)?;
+    Ok(Outcome::DssFault { count: 3, tags })
+}
+
+fn peer_fault(alloc: Global) -> Result<Outcome, AllocError> {
+    Ok(Outcome::PeerFault {
+        peer: supplier(alloc)?,
+        count: 7,
+    })
+}
+
 #[test]
 fn prints_refusals(rt: HostRuntime) -> Result<(), Fail> {
+    let alloc = rt.alloc();
     for (refusal, text) in REFUSALS {
-        assert!(rt; shows_refusal(rt.alloc(), refusal, text)?);
+        assert!(rt; shows_refusal(alloc, refusal, text)?);
+    }
+    for (part, text) in PARTS {
+        assert!(rt; shows_refusal(alloc, AskRefusal::DifferentRepeat(part), text)?);
     }
     Ok(())
 }
@@ -50,57 +150,55 @@ fn prints_refusals(rt: HostRuntime) -> Result<(), Fail> {
 #[test]
 fn prints_answers(rt: HostRuntime) -> Result<(), Fail> {
     let alloc = rt.alloc();
-    let flight = flight_id(1, 1);
-    let Ok(ovn) = Ovn::of(alloc, b"ovn-0000000000000001") else {
-        panic!(rt; "it is an OVN");
-    };
-    let planned = Answer::Planned {
-        flight,
-        tag: 1,
-        alternative: 0,
-        ovn,
-        version: 1,
-    };
     assert!(rt;
         shows_answer(
             alloc,
-            planned,
-            "planned tag 1 alternative 0 ovn ovn-0000000000000001 version 1"
+            planned(alloc)?,
+            "planned tag 2 alternative 3 ovn ovn-0000000000000001 version 4"
         )?
     );
-    let Ok(manager) = Name::of(alloc, b"uss1") else {
-        panic!(rt; "it is a name");
-    };
-    let conflict = Answer::Conflict {
-        flight,
-        manager,
-        rule: Verdict::EqualForbidden,
-    };
     assert!(rt;
         shows_answer(
             alloc,
-            conflict,
-            "conflict 00000001-0000-4000-8000-000000000001 uss1 EqualForbidden"
+            changed(alloc)?,
+            "changed tag 6 alternative 7 ovn ovn-0000000000000001 version 8"
         )?
     );
-    let mut missing = FlightIds::new(alloc);
-    missing.push(flight_id(2, 1))?;
-    missing.push(flight_id(3, 1))?;
+    for (rule, text) in CONFLICTS {
+        assert!(rt; shows_answer(alloc, conflict(alloc, rule)?, text)?);
+    }
     assert!(rt;
         shows_answer(
             alloc,
-            Answer::Stale { missing },
+            stale(alloc)?,
             "stale 2 00000002-0000-4000-8000-000000000001 00000003-0000-4000-8000-000000000001"
         )?
     );
-    let steady = Answer::Steady {
-        verdict: Conform::Contingent,
-    };
-    assert!(rt; shows_answer(alloc, steady, "steady Contingent")?);
-    let mut tags = Tags::new(alloc);
-    tags.push(4)?;
-    let fault = Outcome::DssFault { count: 2, tags };
-    assert!(rt; shows(alloc, &fault, "dss-fault 2 tags 1 4")?);
+    assert!(rt; shows_answer(alloc, peer_refused(alloc)?, "peer-refused uss2 404")?);
+    Ok(())
+}
+
+#[test]
+fn prints_answers_without_names(rt: HostRuntime) -> Result<(), Fail> {
+    let alloc = rt.alloc();
+    let flight = flight_id(1, 1);
+    assert!(rt; shows_answer(alloc, Answer::Ended { flight }, "ended")?);
+    assert!(rt; shows_answer(alloc, Answer::Cancelled, "cancelled")?);
+    for (verdict, text) in FINDINGS {
+        assert!(rt; shows_answer(alloc, Answer::Steady { verdict }, text)?);
+    }
+    assert!(rt; shows_answer(alloc, Answer::Crowded { count: 65 }, "crowded 65")?);
+    assert!(rt; shows_answer(alloc, Answer::DssRefused { number: 209 }, "dss-refused 209")?);
+    assert!(rt; shows_answer(alloc, Answer::Unsettled { tag: 0 }, "unsettled 0")?);
+    Ok(())
+}
+
+#[test]
+fn prints_faults(rt: HostRuntime) -> Result<(), Fail> {
+    let alloc = rt.alloc();
+    assert!(rt; shows(alloc, &dss_fault(alloc)?, "dss-fault 3 tags 2 5 4")?);
+    assert!(rt; shows(alloc, &peer_fault(alloc)?, "peer-fault uss2 7")?);
     assert!(rt; shows(alloc, &Outcome::JournalFault, "journal-fault")?);
+    assert!(rt; shows(alloc, &Outcome::Memory, "")?);
     Ok(())
 }

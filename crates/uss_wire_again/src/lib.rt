@@ -12,6 +12,8 @@ pub use laws::{
 pub use order::{long_lists_are_refused_before_their_items, what_the_profile_refuses_comes_first};
 
 #[cfg(test)]
+mod fields;
+#[cfg(test)]
 mod hostile;
 #[cfg(test)]
 mod kinds;

@@ -1,6 +1,6 @@
 -- The answer of the discovery service to a change, and its errors: each object's members in their order. After the OpenAPI annex of
 -- ASTM F3548-21; the limits and the numbers of errors are this project's own.
-use Rattle.std.specs.Prelude.{ℕ, ◌==◌, ◌^◌, List, [], ◌∷◌, ◌++◌, map, length, nat_le, Result, Ok, Err, if◌then◌else◌}
+use Rattle.std.specs.Prelude.{ℕ, ◌==◌, ◌-◌, ◌^◌, ◌&&◌, List, [], ◌∷◌, ◌++◌, Bool, true, map, length, nat_le, Result, Ok, Err, if◌then◌else◌}
 use Rattle.serde_json.specs.Data.{Data}
 use Rattle.uss_intent.specs.declared.records.Reference.{Reference}
 use Rattle.uss_intent.specs.declared.records.Subscriber.{Subscriber}
@@ -11,6 +11,7 @@ use Rattle.uss_wire_base.specs.Reading.{◌>>=◌, Reader, object_at, field, nat
 use Rattle.uss_wire_intent.specs.Texts.{base_at, identifier_at}
 use Rattle.uss_wire_intent.specs.References.{answered_reference_at, references_at}
 use Rattle.uss_wire_answer.specs.declared.changes.Told.{Told}
+use Rattle.uss_wire_answer.specs.declared.changes.Listed.{Listed}
 use Rattle.uss_wire_answer.specs.declared.errors.ErrorBody.{ErrorBody}
 
 -- the lists, one behind another
@@ -36,6 +37,22 @@ subscriber_at place d = do
   told ← field Member.Subscriptions (list_at told_at) d
   base ← field Member.UssBaseUrl base_at d
   Ok (map (told_by base) told)
+
+-- the same before it is taken as several: the base, and the subscriptions
+unfoldable pub listed_at : Reader Listed
+listed_at place d = do
+  _ ← object_at place d
+  told ← field Member.Subscriptions (list_at told_at) d
+  base ← field Member.UssBaseUrl base_at d
+  Ok (record { base = base; told = told })
+
+abbrev pub owed_by : Listed → List Subscriber
+owed_by l = map (told_by l.base) l.told
+
+-- whether the items have at most so many subscriptions in all
+abbrev pub fit : ℕ → List Listed → Bool
+fit room [] = true
+fit room (l ∷ lists) = nat_le (length l.told) room && fit (room - length l.told) lists
 
 abbrev pub at_most_8192 : Member → List Subscriber → Result (List Subscriber) WireRefusal
 at_most_8192 m all = if nat_le (length all) 8192 then Ok all else Err (TooMany m)

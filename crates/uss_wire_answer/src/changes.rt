@@ -6,7 +6,7 @@ ghost use Rattle.uss_wire_answer.specs.Answers as spec;
 
 use serde_json::Value;
 use std::alloc::{AllocError, Global};
-use uss_intent::{Base, Name, Owed, Reference, Subscriber, TicketId};
+use uss_intent::{Base, Name, Owed, Reference, Sequence, Subscriber, TicketId};
 use uss_wire_base::{
     Member, ReadItem, WireRefusal, data, each, few_items, items, member_of, natural, object,
 };
@@ -49,87 +49,98 @@ fn told_of(alloc: Global, member: Member, value: &Value) -> Result<Vec<Told>, Wi
     each(alloc, &ToldReader, member, items)
 }
 
-fn owed_by(alloc: Global, base: &Base, told: &[Told]) -> Result<Owed, AllocError>
-    ensures { IfOk result (λ owed. owed ≡ map (spec.told_by base.now) told.now) }
-{
-    let mut owed = Owed::new(alloc);
-    for one in told {
-        let subscriber = Subscriber {
-            base: base.clone()?,
-            ticket: one.ticket,
-            index: one.index,
-        };
-        owed.push(subscriber)?;
-    }
-    Ok(owed)
+/// Where one is told of a change, and by which subscriptions.
+#[derive(Drop)]
+struct Listed {
+    base: Base,
+    told: Sequence<Told>,
 }
 
 #[derive(Clone, Copy)]
-struct SubscriberReader;
+struct ListedReader;
 
-impl ReadItem<Owed> for SubscriberReader {
-    ghost use Rattle.uss_wire_answer.specs.Answers.{subscriber_at};
+impl ReadItem<Listed> for ListedReader {
+    ghost use Rattle.uss_wire_answer.specs.Answers.{listed_at};
 
-    ghost reads = { λ _. subscriber_at };
+    ghost reads = { λ _. listed_at };
 
-    fn read_item(&self, alloc: Global, place: Member, value: &Value) -> Result<Owed, WireRefusal> {
-        subscriber(alloc, place, value)
+    #[tactic(auto, unfolding(crate::specs::Answers::listed_at))]
+    fn read_item(
+        &self,
+        alloc: Global,
+        place: Member,
+        value: &Value,
+    ) -> Result<Listed, WireRefusal> {
+        object(place, value)?;
+        let told = Sequence::from_vec(told_of(alloc, Member::Subscriptions, value)?);
+        let base = base_of(alloc, Member::UssBaseUrl, value)?;
+        Ok(Listed { base, told })
     }
 }
 
-#[tactic(auto, unfolding(crate::specs::Answers::subscriber_at))]
-fn subscriber(alloc: Global, place: Member, value: &Value) -> Result<Owed, WireRefusal>
-    ensures { Gives result (spec.subscriber_at place (view value.now)) }
+/// The items of a list of at most 8,192.
+fn lists(alloc: Global, member: Member, value: &Value) -> Result<Vec<Listed>, WireRefusal>
+    ensures { GivesBy (λ v. v.items) result (few_at 8192 spec.listed_at member (view value.now)) }
 {
-    object(place, value)?;
-    let told = told_of(alloc, Member::Subscriptions, value)?;
-    let base = base_of(alloc, Member::UssBaseUrl, value)?;
-    Ok(owed_by(alloc, &base, told.as_slice())?)
+    let items = few_items(8192, member, value)?;
+    each(alloc, &ListedReader, member, items)
 }
 
-/// Puts the items of a list behind the others.
-fn append(all: &mut Owed, list: Owed) -> Result<(), AllocError>
-    ensures { OnOk result (all.new ≡ all.old ++ list) }
+/// Whether the items name at most 8,192 subscriptions in all. No base is copied for it.
+fn are_few(lists: &[Listed]) -> bool
+    ensures { result ≡ spec.fit 8192 lists.now }
 {
-    for subscriber in list.into_vec() {
+    let mut room: usize = 8192;
+    for one in lists {
+        if one.told.len() > room {
+            return false;
+        }
+        room -= one.told.len();
+    }
+    true
+}
+
+/// Puts those of one item behind the others.
+fn append(all: &mut Owed, one: &Listed) -> Result<(), AllocError>
+    ensures { OnOk result (all.new ≡ all.old ++ spec.owed_by one.now) }
+{
+    for told in one.told.as_slice() {
+        let subscriber = Subscriber {
+            base: one.base.clone()?,
+            ticket: told.ticket,
+            index: told.index,
+        };
         all.push(subscriber)?;
     }
     Ok(())
 }
 
-fn flattened(alloc: Global, lists: Vec<Owed>) -> Result<Owed, AllocError>
-    ensures { IfOk result (λ all. all ≡ spec.flatten lists.items) }
+fn flattened(alloc: Global, lists: Vec<Listed>) -> Result<Owed, AllocError>
+    ensures { IfOk result (λ all. all ≡ spec.flatten (map spec.owed_by lists.items)) }
 {
     let mut all = Owed::new(alloc);
-    for list in lists {
-        append(&mut all, list)?;
+    for one in lists {
+        append(&mut all, &one)?;
     }
     Ok(all)
 }
 
-fn lists(alloc: Global, member: Member, value: &Value) -> Result<Vec<Owed>, WireRefusal>
-    ensures { GivesBy (λ v. v.items) result (few_at 8192 spec.subscriber_at member (view value.now)) }
+/// Those of all items, where they are few.
+fn few(alloc: Global, member: Member, lists: Vec<Listed>) -> Result<Owed, WireRefusal>
+    ensures { Gives result (spec.at_most_8192 member (spec.flatten (map spec.owed_by lists.items))) }
 {
-    let items = few_items(8192, member, value)?;
-    each(alloc, &SubscriberReader, member, items)
-}
-
-fn few(member: Member, all: Owed) -> Result<Owed, WireRefusal>
-    ensures { result ≡ spec.at_most_8192 member all }
-{
-    if all.len() <= 8192 {
-        Ok(all)
+    if are_few(lists.as_slice()) {
+        Ok(flattened(alloc, lists)?)
     } else {
         Err(WireRefusal::TooMany(member))
     }
 }
 
-#[tactic(auto, unfolding(crate::specs::Answers::subscribers_at))]
 fn subscribers(alloc: Global, member: Member, value: &Value) -> Result<Owed, WireRefusal>
     ensures { Gives result (spec.subscribers_at member (view value.now)) }
 {
     let lists = lists(alloc, member, value)?;
-    few(member, flattened(alloc, lists)?)
+    few(alloc, member, lists)
 }
 
 fn subscribers_of(alloc: Global, member: Member, value: &Value) -> Result<Owed, WireRefusal>

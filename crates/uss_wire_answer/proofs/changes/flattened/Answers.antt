@@ -1,7 +1,8 @@
 use Rattle.std.proofs.Common.{List, ◌++◌, ap, ◌∙◌, sym}
 use Rattle.uss_intent.specs.declared.records.Subscriber.{Subscriber}
-use Rattle.uss_wire_answer.proofs.Flat.{flatten_more}
+use Rattle.uss_wire_answer.specs.Answers.{owed_by}
+use Rattle.uss_wire_answer.proofs.Flat.{owed_more}
 use Rattle.uss_wire_answer.proofs.changes.flattened.Goals as goal
 
-pub loop-list-preserved : goal.loop-list-preserved
-loop-list-preserved c = c.in_ok-append.ensures ∙ ap (λ (a : List Subscriber). a ++ c.in-Some.list) c.loop-list.invariant ∙ sym (flatten_more c.loop-list.yielded c.in-Some.list)
+pub loop-one-preserved : goal.loop-one-preserved
+loop-one-preserved c = c.in_ok-append.ensures ∙ ap (λ (a : List Subscriber). a ++ owed_by c.in-Some.one) c.loop-one.invariant ∙ sym (owed_more c.loop-one.yielded c.in-Some.one)

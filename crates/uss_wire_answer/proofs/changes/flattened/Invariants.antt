@@ -1,6 +1,7 @@
 use Rattle.std.proofs.Common.{◌≡◌}
-use Rattle.uss_wire_answer.specs.Answers.{flatten}
+use Rattle.std.specs.Prelude.{map}
+use Rattle.uss_wire_answer.specs.Answers.{flatten, owed_by}
 use Rattle.uss_wire_answer.proofs.changes.flattened.Given as goal
 
-abbrev pub invariant-loop-list : goal.invariant-loop-list
-invariant-loop-list l = l.all ≡ flatten l.yielded
+abbrev pub invariant-loop-one : goal.invariant-loop-one
+invariant-loop-one l = l.all ≡ flatten (map owed_by l.yielded)
