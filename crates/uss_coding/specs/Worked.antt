@@ -1,15 +1,12 @@
 -- Worked codings: entries, and their bytes written by hand. Each number in an entry is another one, so that none can stand for a second.
 -- This project's own.
 use Rattle.std.specs.Prelude.{ℕ, pos, neg_ℤ, List, [], ◌∷◌, ◌++◌, codes, Some, None}
-use Rattle.uss_shape.specs.declared.Place.{Place}
 use Rattle.uss_vol4.specs.Volume.{Volume4D}
 use Rattle.uss_intent.specs.declared.records.State.{State}
 use Rattle.uss_intent.specs.declared.records.State.TheVariants as States
 use Rattle.uss_intent.specs.declared.records.Subscriber.{Subscriber}
 use Rattle.uss_event.specs.declared.rules.Verdict.{Verdict}
-use Rattle.uss_event.specs.declared.details.Proposal.{Proposal}
 use Rattle.uss_event.specs.declared.asks.Wish.TheVariants.{Put, End}
-use Rattle.uss_event.specs.declared.entries.Owner.{Owner}
 use Rattle.uss_event.specs.declared.entries.Ending.TheVariants.{Conflict, Stale, Cancelled, Ended}
 use Rattle.uss_event.specs.declared.entries.Entry.{Entry}
 use Rattle.uss_event.specs.declared.entries.Entry.TheVariants.{Opened, TicketOpen, Pending, Held, Deciding, Done, TicketGone, Sent}
