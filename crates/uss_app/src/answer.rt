@@ -1,4 +1,4 @@
-ghost use Rattle.std.specs.Prelude.{◌≡◌, ◌++◌, ◌≤◌, ℕ, List, [], Option, Some, codes, string_bytes, IfOk, IfErr, IsErrOf};
+ghost use Rattle.std.specs.Prelude.{◌≡◌, ◌≢◌, ◌++◌, ◌≤◌, ℕ, List, [], Option, Some, Err, codes, string_bytes, IfOk, IfErr, IsErrOf};
 ghost use Rattle.uss_cause.specs.Cause.{Rose};
 ghost use Rattle.uss_text.specs.Refusals.{refusal_text};
 ghost use Rattle.uss_app.specs.Says.{Says};
@@ -43,6 +43,7 @@ const MOST: usize = 67_108_864;
 pub fn answer_to<S: Source>(alloc: Global, command: Command, input: &mut S) -> Result<Answer, Stop>
     ensures kept { S.faults input.old ≤ S.faults input.new }
     ensures fault { IsErrOf result Stop.Fault → Rose (S.faults input.old) (S.faults input.new) }
+    ensures calm { result ≢ Err Stop.Fault → S.faults input.new ≡ S.faults input.old }
     ensures status { IfOk result (λ a. a.status ≤ 1) }
     ensures ended { (left : List ℕ) → S.left input.old ≡ Some left → IfOk result (λ a. a.status ≡ 0 → S.left input.new ≡ Some []) }
     ensures says { (left : List ℕ) → S.left input.old ≡ Some left → IfOk result (λ a. Says command left a.status (string_bytes a.text)) }

@@ -1,7 +1,7 @@
 //! The top call: what the program does with its words, its input and its output, over any source and sink.
 #![tactic(auto)]
 
-ghost use Rattle.std.specs.Prelude.{◌≡◌, ℕ, ◌≤◌, ◌⊎◌, ◌↔◌, ◌++◌, List, [], map, Option, Some, None, string_bytes};
+ghost use Rattle.std.specs.Prelude.{◌≡◌, ◌≢◌, ℕ, ◌≤◌, ◌⊎◌, ◌↔◌, ◌++◌, List, [], map, Option, Some, None, string_bytes};
 ghost use Rattle.uss_cause.specs.Cause.{Rose};
 ghost use Rattle.uss_link.specs.Bytes.{TookFront};
 ghost use Rattle.uss_app.specs.Words as named;
@@ -66,6 +66,7 @@ pub fn command<S: Source, K: Sink>(
     ensures fault { result ≡ 3 → Rose (S.faults input.old) (S.faults input.new) ⊎ Rose (K.faults output.old) (K.faults output.new) }
     ensures source_kept { S.faults input.old ≤ S.faults input.new }
     ensures sink_kept { K.faults output.old ≤ K.faults output.new }
+    ensures calm { result ≢ 3 → (S.faults input.new ≡ S.faults input.old) × (K.faults output.new ≡ K.faults output.old) }
 {
     let Some(command) = command_of(words) else {
         return USAGE;
@@ -83,6 +84,7 @@ fn told<K: Sink>(answer: &Answer, output: &mut K) -> u8
     ensures status { (result ≡ answer.now.status) ⊎ (result ≡ 3) }
     ensures fault { result ≡ 3 → Rose (K.faults output.old) (K.faults output.new) }
     ensures kept { K.faults output.old ≤ K.faults output.new }
+    ensures calm { result ≢ 3 → K.faults output.new ≡ K.faults output.old }
     ensures written { (taken : List ℕ) → K.taken output.old ≡ Some taken → result ≤ 1 → K.taken output.new ≡ Some (taken ++ string_bytes answer.now.text) }
     ensures front { (taken : List ℕ) → K.taken output.old ≡ Some taken → result ≡ 3 → TookFront taken (K.taken output.new) (string_bytes answer.now.text) }
 {

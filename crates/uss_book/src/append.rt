@@ -30,6 +30,7 @@ pub(crate) fn append<D: Disk>(journal: &mut Journal<D>, bytes: &[u8]) -> Outcome
     requires fits { used_of journal.old.records + 5 + length bytes.now ≤ limit }
     ensures answer { Came D.fault_count journal.old bytes.now result journal.new }
     ensures count { D.fault_count journal.old.disk ≤ D.fault_count journal.new.disk }
+    ensures calm { OnDone result (D.fault_count journal.new.disk ≡ D.fault_count journal.old.disk) }
     ensures honest { D.is_honest journal.new.disk ↔ D.is_honest journal.old.disk }
     ensures crash { D.is_honest journal.old.disk → CrashLeaves D.moment D.left_since
         (WithOrWithout journal.old.records (Some bytes.now)) journal.old.disk journal.new.disk }

@@ -126,6 +126,7 @@ fn begun<D: Disk>(
     ensures legal { IfOk result (λ b. IsLegal b.entries) }
     ensures unspent { IfOk result (λ b. (b.spent ≡ None) × (b.tried ≡ None)) }
     ensures count { D.fault_count journal.disk ≤ D.fault_count (disk_after result) }
+    ensures calm { IfOk result (λ b. D.fault_count b.disk ≡ D.fault_count journal.disk) }
     ensures honest { D.is_honest (disk_after result) ↔ D.is_honest journal.disk }
     ensures durable { D.is_honest journal.disk → IfOk result (λ b. (image : List ℕ) → D.may_leave b.disk image → StandsForBook b.entries image) }
     ensures crash { D.is_honest journal.disk → CrashLeaves D.moment D.left_since
@@ -152,6 +153,7 @@ impl<D: Disk> Book<D> {
         ensures legal { IfOk result (λ b. IsLegal b.entries) }
         ensures owner { IfOk result (λ b. owner_of b.entries ≡ Some owner) }
         ensures count { D.fault_count disk ≤ D.fault_count (disk_after result) }
+        ensures calm { IfOk result (λ b. D.fault_count b.disk ≡ D.fault_count disk) }
         ensures honest { D.is_honest (disk_after result) ↔ D.is_honest disk }
 
         // On an honest disk, by the bytes.
@@ -186,6 +188,7 @@ impl<D: Disk> Book<D> {
         requires { MayFollow self.old.entries e }
         ensures answer { MatchResult result (λ _. Entered self.old e self.new) (λ r. EnterRefused D.fault_count self.old e r self.new) }
         ensures count { D.fault_count self.old.disk ≤ D.fault_count self.new.disk }
+        ensures calm { OnOk result (D.fault_count self.new.disk ≡ D.fault_count self.old.disk) }
         ensures honest { D.is_honest self.new.disk ↔ D.is_honest self.old.disk }
 
         // A crash at any moment of it leaves the book before it, or that with the new entry in whole; after Ok only the latter.
@@ -230,6 +233,7 @@ impl<D: Disk> Book<D> {
         // The records that were read are the cause of 151, 152 and 154; on an honest disk none of these comes.
         ensures records { IfErr result (IsByRecords self.old.entries self.new.records) }
         ensures count { D.fault_count self.old.disk ≤ D.fault_count self.new.disk }
+        ensures calm { OnOk result (D.fault_count self.new.disk ≡ D.fault_count self.old.disk) }
         ensures honest { D.is_honest self.new.disk ↔ D.is_honest self.old.disk }
 
         // On an honest disk the entries are those before it, or these with the one that was tried, and it is refused by a fault or for

@@ -34,6 +34,7 @@ pub(crate) fn load<D: Disk>(alloc: Global, disk: D) -> Result<(Journal<D>, Entri
     ensures legal { IfOk result (λ x. IsLegal x.1.entries) }
     ensures records { IfOk result (λ x. records_of x.1.entries ≡ x.0.records) }
     ensures count { D.fault_count disk ≤ D.fault_count (disk_read result) }
+    ensures calm { IfOk result (λ x. D.fault_count x.0.disk ≡ D.fault_count disk) }
     ensures honest { D.is_honest (disk_read result) ↔ D.is_honest disk }
 
     // On an honest disk, by the bytes.

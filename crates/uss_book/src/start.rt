@@ -35,6 +35,7 @@ pub(crate) fn start<D: Disk>(
     ensures records { OnOk result (records_of kept.new.entries ≡ journal.new.records) }
     ensures unspent { OnOk result ((journal.new.spent ≡ None) × (journal.new.tried ≡ None)) }
     ensures count { D.fault_count journal.old.disk ≤ D.fault_count journal.new.disk }
+    ensures calm { OnOk result (D.fault_count journal.new.disk ≡ D.fault_count journal.old.disk) }
     ensures honest { D.is_honest journal.new.disk ↔ D.is_honest journal.old.disk }
     ensures durable { D.is_honest journal.old.disk → OnOk result ((image : List ℕ) → D.may_leave journal.new.disk image → StandsForBook kept.new.entries image) }
     ensures crash { D.is_honest journal.old.disk → CrashLeaves D.moment D.left_since

@@ -20,6 +20,7 @@ pub fn view<D: Disk>(alloc: Global, disk: D) -> Result<(Entries, D), BookRefusal
     ensures refused { IfErr result (λ r. MountRefused (D.fault_count disk) (D.fault_count r.back) r.refusal) }
     ensures legal { IfOk result (λ x. IsLegal x.0) }
     ensures count { D.fault_count disk ≤ D.fault_count (disk_viewed result) }
+    ensures calm { IfOk result (λ x. D.fault_count x.1 ≡ D.fault_count disk) }
     ensures honest { D.is_honest (disk_viewed result) ↔ D.is_honest disk }
 
     // On an honest disk, by the bytes.
