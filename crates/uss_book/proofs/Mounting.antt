@@ -5,17 +5,19 @@ use Rattle.uss_disk.specs.Disk.{CrashLeaves}
 use Rattle.uss_disk.specs.Crash.{crash_weaker}
 use Rattle.uss_event.specs.declared.entries.Entry.{Entry}
 use Rattle.uss_journal.specs.Format.{stands_for, used_of}
-use Rattle.uss_journal.specs.Journal.{JournalView, StandsFor, WithOrWithout}
+use Rattle.uss_journal.specs.Journal.{JournalView, StandsFor, WithOrWithout, mounted}
 use Rattle.uss_journal.specs.Refusal.{RemountRefused}
+use Rattle.uss_journal.specs.Refusal as journal
 use Rattle.uss_journal.specs.declared.refusal.JournalRefusal.{JournalRefusal}
 use Rattle.uss_journal.specs.declared.refusal.JournalRefusal.TheVariants.{DiskFault, JournalFull, NotAJournal, Spent, Memory}
 use Rattle.uss_law_book.specs.Legal.{MayFollow, IsLegal}
 use Rattle.uss_law_book.proofs.EachOrderly.{legal_longer}
 use Rattle.uss_book.specs.Book.{BookWithOrWithout, records_of}
 use Rattle.uss_book.specs.Whole.{IsWhole}
-use Rattle.uss_book.specs.Refusal.{SaysNothing, passed_on}
+use Rattle.uss_book.specs.Refusal.{SaysNothing, IsLeft, passed_on}
 use Rattle.uss_book.specs.Reread.{IsByRecords, IsOfReading, after_refusal, apart}
 use Rattle.uss_book.specs.declared.refusal.BookFault.{BookFault}
+use Rattle.uss_book.specs.declared.refusal.BookFault.TheVariants as Books
 use Rattle.uss_book.proofs.Lengths.{used_is}
 use Rattle.uss_book.proofs.Entering.{as_read}
 use Rattle.uss_book.proofs.Rereading.{read_on}
@@ -124,3 +126,21 @@ pub remount_crash : {D : Type 0} (moment : D → ℕ) (left_since : D → ℕ �
     → CrashLeaves moment left_since (WithOrWithout records tried') old new → CrashLeaves moment left_since (BookWithOrWithout es tried) old new
 remount_crash moment left_since old new es tried records tried' agrees leaves =
     crash_weaker moment left_since old new (WithOrWithout records tried') (BookWithOrWithout es tried) agrees leaves
+
+-- the journal refused to be mounted again: its file is as it was, but for a fault
+pub left_by_journal : {X : Type 0} (f : X → List ℕ) (before after : X) (r : JournalRefusal) → journal.UnlessFault r (after ≡ before) → IsLeft (f before) (f after) (passed_on r)
+left_by_journal f before after DiskFault h = tt
+left_by_journal f before after (NotAJournal place) h = ap f h
+left_by_journal f before after Memory h = inl (ap f h)
+left_by_journal f before after JournalFull h = inl (ap f h)
+left_by_journal f before after (Spent count) h = inl (ap f h)
+
+-- it was mounted again, and the book wasn't, which is for want of memory alone
+pub left_by_rereading : (file after : List ℕ) (fault : BookFault) → SaysNothing fault → IsOfReading fault → after ≡ mounted file → IsLeft file after fault
+left_by_rereading file after Books.DiskFault nothing reading h = tt
+left_by_rereading file after Books.Memory nothing reading h = inr h
+left_by_rereading file after (Books.NotAJournal place) nothing reading h = absurd reading
+left_by_rereading file after (Books.Spent count) nothing reading h = absurd reading
+left_by_rereading file after (Books.BadEntry n) nothing reading h = absurd nothing
+left_by_rereading file after (Books.OtherOwner kept) nothing reading h = absurd nothing
+left_by_rereading file after (Books.Changed n) nothing reading h = absurd nothing

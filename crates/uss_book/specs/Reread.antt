@@ -86,10 +86,10 @@ pub record StaysSo {D : Type 0} (old new : BookView D) : Type 0 where
   pub tried : new.tried ≡ old.tried
 
 -- Each refusal of a remount, with its cause. After want of memory, and where other records were read, a book that wasn't spent may
--- be so.
+-- be so. At 143 no records were read, so that it can't stand in the place of 151, 152 or 154.
 abbrev pub RemountRefused : {D : Type 0} (fault_count : D → ℕ) (old : BookView D) (fault : BookFault) (new : BookView D) → Type 0
 RemountRefused fault_count old DiskFault new = StaysSo old new × Rose (fault_count old.disk) (fault_count new.disk) × (new.spent ≡ Some (fault_count new.disk))
-RemountRefused fault_count old (NotAJournal place) new = StaysSo old new × (new.spent ≡ old.spent)
+RemountRefused fault_count old (NotAJournal place) new = StaysSo old new × (new.spent ≡ old.spent) × (new.records ≡ old.records)
 RemountRefused fault_count old Memory new = StaysSo old new × ((new.spent ≡ old.spent) ⊎ (new.spent ≡ apart old.spent (fault_count new.disk)))
 RemountRefused fault_count old (BadEntry n) new = StaysSo old new × (new.spent ≡ apart old.spent (fault_count new.disk))
 RemountRefused fault_count old (OtherOwner kept) new = StaysSo old new × (new.spent ≡ apart old.spent (fault_count new.disk))

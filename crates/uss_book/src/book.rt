@@ -4,6 +4,7 @@ ghost use Rattle.std.specs.Option.{option_copied, option_and_then, option_map};
 ghost use Rattle.uss_event.specs.declared.entries.Entry.{Entry};
 ghost use Rattle.uss_disk.specs.Disk.{bytes_of, CrashLeaves};
 ghost use Rattle.uss_journal.specs.Format.{stands_for};
+ghost use Rattle.uss_journal.specs.Journal.{mounted};
 ghost use Rattle.uss_law_book.specs.Lists.{owner_of};
 ghost use Rattle.uss_law_book.specs.Readings.{open_job_of, last_of, trials_of, owns, owed_of, untold};
 ghost use Rattle.uss_law_book.specs.Attempts.{held};
@@ -240,6 +241,8 @@ impl<D: Disk> Book<D> {
         // want of memory alone.
         ensures found { D.is_honest self.old.disk → MatchResult result (λ _. StandsForBook self.new.entries (bytes_of (D.reads self.old.disk))) SaysNothing }
         ensures kept { D.is_honest self.old.disk → BookWithOrWithout self.old.entries self.old.tried (bytes_of (D.reads self.old.disk)) }
+        ensures file { D.is_honest self.old.disk → OnOk result (bytes_of (D.reads self.new.disk) ≡ mounted (bytes_of (D.reads self.old.disk))) }
+        ensures untouched { D.is_honest self.old.disk → IfErr result (λ r. IsLeft (bytes_of (D.reads self.old.disk)) (bytes_of (D.reads self.new.disk)) r) }
         ensures durable { D.is_honest self.old.disk → OnOk result ((image : List ℕ) → D.may_leave self.new.disk image → StandsForBook self.new.entries image) }
         ensures crash { D.is_honest self.old.disk → CrashLeaves D.moment D.left_since
             (BookWithOrWithout self.old.entries self.old.tried) self.old.disk self.new.disk }
@@ -279,7 +282,7 @@ impl<D: Disk> Book<D> {
         self.kept.len() as u64
     }
 
-    /// The bytes of a journal of the entries: the file's, up to and with its last gate. Takes no memory.
+    /// The bytes of a journal of the entries: the file's, up to and with its last gate, unless the book is spent. Takes no memory.
     pub fn used(&self) -> u64
         ensures { result ≡ journal_length self.now.entries }
     {

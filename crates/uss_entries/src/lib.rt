@@ -1,5 +1,5 @@
-//! The entries of a supplier's book with an index over them, so that every reader of the book answers in time logarithmic in the
-//! entries.
+//! The entries of a supplier's book with an index over them, so that the readers of the book answer in time logarithmic in the
+//! entries; the search for what is still to be told takes that for each place that it passes.
 #![tactic(auto)]
 
 mod attempts;

@@ -204,13 +204,13 @@ fn are_answered(alloc: Global, rows: &[&[u8]], wanted: u16) -> bool {
     true
 }
 
-/// Whether these rows are read where they come byte by byte, and each call behind the last of their bytes fails.
-fn are_read_without_more(alloc: Global, rows: &[&[u8]]) -> bool {
+/// Whether these rows have this answer where they come byte by byte, and the call behind the last of their bytes fails.
+fn are_answered_without_more(alloc: Global, rows: &[&[u8]], wanted: u16) -> bool {
     for row in rows {
         let Ok(bytes) = bytes_of(alloc, row) else {
             return false;
         };
-        if number(alloc, bytes.as_slice(), 1, bytes.len() as u64 + 1) != 200 {
+        if number(alloc, bytes.as_slice(), 1, bytes.len() as u64 + 1) != wanted {
             return false;
         }
     }
@@ -221,12 +221,21 @@ fn are_read_without_more(alloc: Global, rows: &[&[u8]]) -> bool {
 fn requests_are_read_or_refused(rt: HostRuntime) -> Result<(), Fail> {
     let alloc = rt.alloc();
     assert!(rt; are_answered(alloc, &READ, 200));
-    assert!(rt; are_read_without_more(alloc, &READ));
+    assert!(rt; are_answered_without_more(alloc, &READ, 200));
     assert!(rt; are_answered(alloc, &BAD_HEADS, 432));
     assert!(rt; are_answered(alloc, &NO_CLIENTS, 438));
     assert!(rt; are_answered(alloc, &LARGE_BODIES, 433));
     assert!(rt; are_answered(alloc, &BAD_CHUNKS, 434));
     assert!(rt; are_answered(alloc, &TRUNCATED, 435));
+    Ok(())
+}
+
+#[test]
+fn refusals_ask_for_no_byte_behind_them(rt: HostRuntime) -> Result<(), Fail> {
+    let alloc = rt.alloc();
+    assert!(rt; are_answered_without_more(alloc, &NO_CLIENTS, 438));
+    assert!(rt; are_answered_without_more(alloc, &LARGE_BODIES, 433));
+    assert!(rt; are_answered_without_more(alloc, &BAD_CHUNKS, 434));
     Ok(())
 }
 

@@ -84,6 +84,27 @@ const ROWS: [(&str, u16, &str); 36] = [
     ("HTTP/1.1 200 OK|Transfer-Encoding: chunked||", 435, ""),
 ];
 
+/// Replies that end by their length or their chunks, or have no body, with their status and body.
+const FRAMED: [(&str, u16, &str); 5] = [
+    ("HTTP/1.1 200 OK|Content-Length: 5||hello", 200, "hello"),
+    (
+        "HTTP/1.1 404 Not Found|Content-Type: x|content-LENGTH: 0||",
+        404,
+        "",
+    ),
+    (
+        "HTTP/1.1 200 OK|Transfer-Encoding: chunked||5|hello|0||",
+        200,
+        "hello",
+    ),
+    (
+        "HTTP/1.1 200 OK|Transfer-Encoding: CHUNKED||2;x=1|he|3|llo|0|Trailer: x||",
+        200,
+        "hello",
+    ),
+    ("HTTP/1.1 204 No Content|Connection: close||", 204, ""),
+];
+
 /// The bytes that a row stands for.
 fn bytes_of(alloc: Global, row: &str) -> Result<Vec<u8>, Fail> {
     let mut bytes = Vec::new(alloc);
@@ -145,6 +166,43 @@ fn responses_are_read_or_refused(rt: HostRuntime) -> Result<(), Fail> {
             assert!(rt; is_answer(&answer, wanted, body.as_bytes()), "{row}");
         }
     }
+    Ok(())
+}
+
+/// Whether the row is read where it comes byte by byte, and the call behind the last of its bytes fails. One call reaches.
+fn is_read_without_more(alloc: Global, row: &str, wanted: u16, body: &str) -> Result<bool, Fail> {
+    let bytes = bytes_of(alloc, row)?;
+    let behind = bytes.len() as u64 + 2;
+    let answer = read(alloc, bytes, 1, behind)?;
+    Ok(is_answer(&answer, wanted, body.as_bytes()))
+}
+
+#[test]
+fn framed_responses_ask_for_no_byte_behind_them(rt: HostRuntime) -> Result<(), Fail> {
+    let alloc = rt.alloc();
+    for (row, wanted, body) in FRAMED {
+        assert!(rt; is_read_without_more(alloc, row, wanted, body)?, "{row}");
+    }
+    Ok(())
+}
+
+/// The number of the answer to a head with a field of so many bytes; 42 bytes stand round them.
+fn long_head(alloc: Global, filling: usize) -> Result<u16, Fail> {
+    let mut bytes = bytes_of(alloc, "HTTP/1.1 200 OK|Content-Length: 0|A:")?;
+    let letters = vec![in alloc; b'x'; filling]?;
+    bytes.extend_from_slice(letters.as_slice())?;
+    bytes.extend_from_slice(b"\r\n\r\n")?;
+    match read(alloc, bytes, 1000, 0)? {
+        Ok(response) => Ok(response.status),
+        Err(refusal) => Ok(number(refusal)),
+    }
+}
+
+#[test]
+fn heads_of_responses_have_at_most_16_kib(rt: HostRuntime) -> Result<(), Fail> {
+    let alloc = rt.alloc();
+    assert_eq!(rt; long_head(alloc, 16342)?, 200);
+    assert_eq!(rt; long_head(alloc, 16343)?, 431);
     Ok(())
 }
 

@@ -3,10 +3,10 @@ use Rattle.uss_disk.specs.Disk.{bytes_of, CrashLeaves}
 use Rattle.uss_event.specs.declared.entries.Entry.{Entry}
 use Rattle.uss_book.specs.declared.refusal.BookFault.{BookFault}
 use Rattle.uss_book.specs.Book.{BookView, BookWithOrWithout}
-use Rattle.uss_book.specs.Refusal.{passed_on}
+use Rattle.uss_book.specs.Refusal.{passed_on, IsLeft}
 use Rattle.uss_book.specs.Reread.{IsByRecords, after_refusal}
 use Rattle.uss_book.specs.Whole.{IsWhole}
-use Rattle.uss_book.proofs.Mounting.{refused_whole, reread_whole, apart_whole, refused_for_memory, remount_crash, by_journal}
+use Rattle.uss_book.proofs.Mounting.{refused_whole, reread_whole, apart_whole, refused_for_memory, remount_crash, by_journal, left_by_journal, left_by_rereading}
 use Rattle.uss_book.proofs.book.Book.remount.Goals as goal
 
 pub invariant_of-self : goal.invariant_of-self
@@ -86,3 +86,26 @@ returns-in-Err-reread-clause-records g c =
     let old = c.self.inside in
     let is_entries : old.kept.entries ≡ c.args.self.now.entries = ap (λ (v : BookView g.row.D.Denot). v.entries) c.self.view_is in
     subst (λ (l : List Entry). IsByRecords l c.remount.new.self.records c.in-Err-reread.fault) (c.as_slice.ensures ∙ is_entries) c.in-Err-reread.ensures.refused
+
+pub returns-in-Err-clause-untouched : goal.returns-in-Err-clause-untouched
+returns-in-Err-clause-untouched g c = λ honest.
+    let D = g.D.Disk in
+    let old = c.self.inside in
+    let is_disk : old.journal.disk ≡ c.args.self.now.disk = ap (λ (v : BookView g.row.D.Denot). v.disk) c.self.view_is in
+    let still = subst D.is_honest (sym is_disk) honest in
+    subst (λ d. IsLeft (bytes_of (D.reads d)) (bytes_of (D.reads c.remount.new.self.disk)) c.passed_on-fault.result) is_disk
+    (subst (IsLeft (bytes_of (D.reads old.journal.disk)) (bytes_of (D.reads c.remount.new.self.disk))) (sym c.passed_on-fault.ensures)
+    (left_by_journal bytes_of (D.reads old.journal.disk) (D.reads c.remount.new.self.disk) c.in-Err.refusal (c.in-Err.ensures.untouched still)))
+
+pub returns-in-Err-reread-clause-untouched : goal.returns-in-Err-reread-clause-untouched
+returns-in-Err-reread-clause-untouched g c = λ honest.
+    let D = g.D.Disk in
+    let old = c.self.inside in
+    let is_disk : old.journal.disk ≡ c.args.self.now.disk = ap (λ (v : BookView g.row.D.Denot). v.disk) c.self.view_is in
+    let still = subst D.is_honest (sym is_disk) honest in
+    subst (λ d. IsLeft (bytes_of (D.reads d)) (bytes_of (D.reads c.remount.new.self.disk)) c.in-Err-reread.fault) is_disk
+    (left_by_rereading (bytes_of (D.reads old.journal.disk)) (bytes_of (D.reads c.remount.new.self.disk)) c.in-Err-reread.fault
+    (refused_for_memory D.may_leave D.is_honest old.journal c.remount.new.self old.kept.entries old.spent old.tried old.used c.self.invariant c.remount.ensures.honest.0
+    (bytes_of (D.reads old.journal.disk)) c.in-Err-reread.fault still (c.in_default.ensures.found still) (c.remount.ensures.kept still)
+    (subst (λ (l : List Entry). IsByRecords l c.remount.new.self.records c.in-Err-reread.fault) c.as_slice.ensures c.in-Err-reread.ensures.refused) c.in-Err-reread.ensures.alone)
+    c.in-Err-reread.ensures.alone (c.in_default.ensures.file still))
