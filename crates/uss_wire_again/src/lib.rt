@@ -1,10 +1,12 @@
-//! That what is written is read again, where the reader and the writer of a message stand in different crates, and tests of the
-//! messages of all crates.
+//! That what is written is read again, where the reader and the writer of a message stand in different crates, instants that were
+//! worked out by hand, and tests of the messages of all crates.
 #![tactic(auto)]
 
+mod instants;
 mod laws;
 mod order;
 
+pub use instants::worked_instants;
 pub use laws::{
     answers_are_read_again, answers_that_were_read_are_read_again,
     calls_that_were_read_are_read_again, events_that_were_read_are_read_again,
