@@ -13,7 +13,7 @@ ghost use Rattle.uss_wire_base.specs.Reading.{message_of};
 ghost use Rattle.uss_wire_base.specs.Writing.{IsTextOf, IsSigned64, AllOf};
 ghost use Rattle.uss_wire_answer.specs.declared.errors.ErrorBody.{ErrorBody};
 ghost use Rattle.uss_wire_answer.specs.Answers.{change_answer_at, error_at};
-ghost use Rattle.uss_wire_answer.specs.Writing.{query_answer_json, get_answer_json, change_answer_json, error_json, IsReadable};
+ghost use Rattle.uss_wire_answer.specs.Writing.{query_answer_json, get_answer_json, change_answer_json, error_json, IsReadable, IsReadableError};
 ghost use Rattle.uss_wire.specs.Messages as read;
 ghost use Rattle.uss_wire.specs.Writing as write;
 ghost use Rattle.uss_wire_event.specs.Intents.{details_answer_at, notification_at};
@@ -66,4 +66,15 @@ pub fn events_that_were_read_are_read_again()
     ensures asks { (r : FlightAsk) (a b : List ℕ) → message_of asks_at a ≡ Ok r → IsTextOf (asks_json r) b → message_of asks_at b ≡ Ok r }
     ensures positions { (p : PositionAsk) (a b : List ℕ) → IsSigned64 p.place.x → IsSigned64 p.place.y → IsSigned64 p.altitude
         → message_of positions_at a ≡ Ok p → IsTextOf (positions_json p) b → message_of positions_at b ≡ Ok p }
+{}
+
+/// What a client reads of the discovery service's answers: a reference has an OVN only where the client is its manager, and what else it
+/// has is of its type; a list has at most 4,096. The function does nothing.
+pub fn answers_show_own_ovns_alone()
+    ensures query_answer { (client b : List ℕ) (rs : List Reference) → message_of (read.query_answer_at client) b ≡ Ok rs
+        → AllOf (IsReadable client) rs × (length rs ≤ 4096) }
+    ensures get_answer { (client b : List ℕ) (r : Reference) → message_of (read.get_answer_at client) b ≡ Ok r → IsReadable client r }
+    ensures change_answer { (client b : List ℕ) (r : Reference) (ss : List Subscriber) → message_of (change_answer_at client) b ≡ Ok (r, ss)
+        → IsReadable client r }
+    ensures error { (client b : List ℕ) (e : ErrorBody) → message_of (error_at client) b ≡ Ok e → IsReadableError client e }
 {}

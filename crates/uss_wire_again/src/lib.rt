@@ -8,7 +8,7 @@ mod order;
 
 pub use instants::worked_instants;
 pub use laws::{
-    answers_are_read_again, answers_that_were_read_are_read_again,
+    answers_are_read_again, answers_show_own_ovns_alone, answers_that_were_read_are_read_again,
     calls_that_were_read_are_read_again, events_that_were_read_are_read_again,
 };
 pub use order::{long_lists_are_refused_before_their_items, what_the_profile_refuses_comes_first};
