@@ -1,4 +1,4 @@
-ghost use Rattle.std.specs.Prelude.{◌≡◌, ◌≢◌, ◌≤◌, ◌<◌, List, ℕ, length, map, take, All, Some, None, option_map, IfOk, IfErr, Err};
+ghost use Rattle.std.specs.Prelude.{◌≡◌, ◌≢◌, ◌≤◌, ◌<◌, List, ℕ, length, map, take, All, Some, None, option_map, IfOk, IfErr, IfSome, IsSome, Err};
 ghost use Rattle.httparse.specs.Grammar.{NeverHasResponse};
 ghost use Rattle.httparse.specs.Spans.{IsResponseOf, IsResponseWithin, IsHeaderWithin, header_bytes};
 ghost use Rattle.uss_cause.specs.Cause.{Rose};
@@ -9,37 +9,50 @@ ghost use Rattle.uss_http_base.specs.Streams.{Hears};
 ghost use Rattle.uss_http_response.specs.Heads.{IsOpenHead, IsRefusedHead, end_by};
 ghost use Rattle.uss_http_response.specs.Answers.{IsHeadAt, TakesHead, MissesHead};
 
-use httparse::Status;
-use httparse::spans::{HeaderSpan, ResponseSpans, parse_response};
+use httparse::spans::{EMPTY_HEADER_SPAN, HeaderSpan, ResponseSpans, parse_response};
+use httparse::{Error, Status};
 use std::alloc::{AllocError, Global};
 use std::marker::Model;
 use uss_http_base::{
     Framing, Intake, Look, Piece, ROOM, ReadRefusal, Stream, body_framing, fields_may_end,
-    head_refusal, places, take_piece,
+    head_refusal, take_piece,
 };
 
-/// Heads of responses, with the places of the fields of the last one that was found.
+/// Room for the fields at first: few heads have more.
+const FIRST_ROOM: usize = 64;
+
+/// Heads of responses, with the places of the fields of the last one that was found. There is memory for all places from
+/// the start; those behind the first are made only where a head has more fields.
 #[derive(Drop)]
 pub struct ResponseHeads {
     headers: Vec<HeaderSpan>,
 }
 
 impl Model for ResponseHeads {
-    ghost use Rattle.std.specs.Prelude.{◌≡◌, List, length};
+    ghost use Rattle.std.specs.Prelude.{◌≤◌, List, vec_capacity};
     ghost use Rattle.httparse.specs.declared.spans.HeaderSpan.{HeaderSpan};
 
     ghost Value = { List HeaderSpan };
 
     ghost view = { λ h. h.headers.items };
 
-    ghost invariant = { λ h. length h.headers.items ≡ 5462 };
+    ghost invariant = { λ h. 5462 ≤ vec_capacity h.headers };
 }
 
 impl ResponseHeads {
     /// No head was found yet.
     pub fn new(alloc: Global) -> Result<ResponseHeads, AllocError> {
-        let headers = places(alloc, ROOM)?;
+        let mut headers = Vec::with_capacity(alloc, ROOM)?;
+        headers.resize(FIRST_ROOM, EMPTY_HEADER_SPAN)?;
         Ok(ResponseHeads { headers })
+    }
+
+    /// Makes all places.
+    fn make_room(&mut self)
+        ensures { length self.new ≡ 5462 }
+    {
+        let made = self.headers.resize(ROOM, EMPTY_HEADER_SPAN).is_ok();
+        prove!(made);
     }
 
     /// The places of the fields.
@@ -62,7 +75,14 @@ impl Piece for ResponseHeads {
     ghost never = { λ _ bytes. NeverHasResponse bytes };
 
     fn look(&mut self, bytes: &[u8]) -> Look<ResponseSpans> {
-        look_for_head(bytes, self.headers.as_mut_slice())
+        if let Some(look) = look_for_head(bytes, self.headers.as_mut_slice()) {
+            return look;
+        }
+        self.make_room();
+        match look_for_head(bytes, self.headers.as_mut_slice()) {
+            Some(look) => look,
+            None => unreachable!(),
+        }
     }
 
     fn may_end(&self, bytes: &[u8], from: usize) -> bool {
@@ -70,16 +90,17 @@ impl Piece for ResponseHeads {
     }
 }
 
-/// What the bytes show of a head at their front.
-fn look_for_head(bytes: &[u8], headers: &mut [HeaderSpan]) -> Look<ResponseSpans>
-    requires limit { length bytes.now ≤ piece_limit }
-    requires room { length headers.old ≡ 5462 }
-    ensures { MatchLook result (λ spans. IsResponseOf bytes.now headers.new spans × IsResponseWithin bytes.now headers.new spans) (IsOpenHead bytes.now) (NeverHasResponse bytes.now) }
+/// What the bytes show of a head at their front, or none where there are fewer places than it may have fields.
+fn look_for_head(bytes: &[u8], headers: &mut [HeaderSpan]) -> Option<Look<ResponseSpans>>
+    requires { length bytes.now ≤ piece_limit }
+    ensures look { IfSome result (λ look. MatchLook look (λ spans. IsResponseOf bytes.now headers.new spans × IsResponseWithin bytes.now headers.new spans) (IsOpenHead bytes.now) (NeverHasResponse bytes.now)) }
+    ensures room { length headers.old ≡ 5462 → IsSome result }
 {
     match parse_response(bytes, headers) {
-        Ok(Status::Complete(spans)) => Look::Whole(spans),
-        Ok(Status::Partial) => Look::NotYet,
-        Err(_) => Look::Never,
+        Ok(Status::Complete(spans)) => Some(Look::Whole(spans)),
+        Ok(Status::Partial) => Some(Look::NotYet),
+        Err(Error::TooManyHeaders) => None,
+        Err(_) => Some(Look::Never),
     }
 }
 

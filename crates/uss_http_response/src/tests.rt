@@ -186,16 +186,31 @@ fn framed_responses_ask_for_no_byte_behind_them(rt: HostRuntime) -> Result<(), F
     Ok(())
 }
 
+/// The number of the answer to these bytes: the status, or that of the refusal.
+fn answered(alloc: Global, bytes: Vec<u8>) -> Result<u16, Fail> {
+    match read(alloc, bytes, 1000, 0)? {
+        Ok(response) => Ok(response.status),
+        Err(refusal) => Ok(number(refusal)),
+    }
+}
+
 /// The number of the answer to a head with a field of so many bytes; 42 bytes stand round them.
 fn long_head(alloc: Global, filling: usize) -> Result<u16, Fail> {
     let mut bytes = bytes_of(alloc, "HTTP/1.1 200 OK|Content-Length: 0|A:")?;
     let letters = vec![in alloc; b'x'; filling]?;
     bytes.extend_from_slice(letters.as_slice())?;
     bytes.extend_from_slice(b"\r\n\r\n")?;
-    match read(alloc, bytes, 1000, 0)? {
-        Ok(response) => Ok(response.status),
-        Err(refusal) => Ok(number(refusal)),
+    answered(alloc, bytes)
+}
+
+/// The number of the answer to a head with so many fields of three bytes, and one more; 37 bytes stand round them.
+fn many_fields(alloc: Global, count: usize) -> Result<u16, Fail> {
+    let mut bytes = bytes_of(alloc, "HTTP/1.1 200 OK|Content-Length: 0|")?;
+    for _ in 0..count {
+        bytes.extend_from_slice(b"A:\n")?;
     }
+    bytes.extend_from_slice(b"\n")?;
+    answered(alloc, bytes)
 }
 
 #[test]
@@ -203,6 +218,11 @@ fn heads_of_responses_have_at_most_16_kib(rt: HostRuntime) -> Result<(), Fail> {
     let alloc = rt.alloc();
     assert_eq!(rt; long_head(alloc, 16342)?, 200);
     assert_eq!(rt; long_head(alloc, 16343)?, 431);
+    // as many fields as there is room for at first, one more, and as many as a head can have
+    assert_eq!(rt; many_fields(alloc, 63)?, 200);
+    assert_eq!(rt; many_fields(alloc, 64)?, 200);
+    assert_eq!(rt; many_fields(alloc, 5449)?, 200);
+    assert_eq!(rt; many_fields(alloc, 5450)?, 431);
     Ok(())
 }
 

@@ -4,5 +4,6 @@ use Rattle.httparse.specs.Spans.{ResponseExceeds}
 use Rattle.uss_http_response.proofs.Room.{roomy}
 use Rattle.uss_http_response.proofs.heads.look_for_head.Goals as goal
 
-pub returns-in-Err : goal.returns-in-Err
-returns-in-Err c = c.in-Err.ensures.invalid (λ same. roomy c.args.bytes.now c.requires.limit (subst (λ (n : ℕ). ResponseExceeds n c.args.bytes.now) c.requires.room (c.in-Err.ensures.too_many (ap Err same))))
+pub returns-in-Err-TooManyHeaders-clause-room : goal.returns-in-Err-TooManyHeaders-clause-room
+returns-in-Err-TooManyHeaders-clause-room c = λ same.
+    absurd (roomy c.args.bytes.now c.requires (subst (λ (n : ℕ). ResponseExceeds n c.args.bytes.now) same (c.in-Err-TooManyHeaders.ensures.too_many (ap Err c.in-Err-TooManyHeaders.field-0-is))))
