@@ -1,4 +1,4 @@
-ghost use Rattle.std.specs.Prelude.{◌≡◌, ◌≢◌, ◌≤◌, List, length, map, All, Err, IfOk, IfErr, IfSome, IsSome};
+ghost use Rattle.std.specs.Prelude.{◌≡◌, ◌≢◌, ◌≤◌, List, length, map, All, Err, IfOk, IfErr, IfSome, IsSome, vec_capacity};
 ghost use Rattle.httparse.specs.Spans.{IsRequestOf, IsRequestWithin, IsWithin, IsHeaderWithin, span_bytes, header_bytes};
 ghost use Rattle.uss_cause.specs.Cause.{Rose};
 ghost use Rattle.uss_http_base.specs.Heads.{IsOpenHead, BeginsNoHead};
@@ -25,7 +25,7 @@ use uss_intent::{Name, Sequence};
 pub type Bytes = Sequence<u8>;
 
 /// Room for the fields of a head: as many as 16 KiB can have, so that there are never too many.
-pub const ROOM: usize = 5462;
+const ROOM: usize = 5462;
 
 /// Room for the fields at first: few heads have more.
 const FIRST_ROOM: usize = 64;
@@ -48,27 +48,30 @@ impl Model for RequestHeads {
     ghost invariant = { λ h. 5462 ≤ vec_capacity h.headers };
 }
 
-/// So many empty places.
-pub fn places(alloc: Global, count: usize) -> Result<Vec<HeaderSpan>, AllocError>
-    ensures { IfOk result (λ places. length places.items ≡ count) }
+/// Memory for the places of as many fields as a head can have, of which the first are made.
+pub fn places(alloc: Global) -> Result<Vec<HeaderSpan>, AllocError>
+    ensures { IfOk result (λ places. 5462 ≤ vec_capacity places) }
 {
-    vec![in alloc; EMPTY_HEADER_SPAN; count]
+    let mut places = Vec::with_capacity(alloc, ROOM)?;
+    places.resize(FIRST_ROOM, EMPTY_HEADER_SPAN)?;
+    Ok(places)
+}
+
+/// Makes all places, for which there is memory.
+pub fn make_all(places: &mut Vec<HeaderSpan>)
+    requires { 5462 ≤ vec_capacity places.old }
+    ensures all { length places.new.items ≡ 5462 }
+    ensures room { 5462 ≤ vec_capacity places.new }
+{
+    let made = places.resize(ROOM, EMPTY_HEADER_SPAN).is_ok();
+    prove!(made);
 }
 
 impl RequestHeads {
     /// No head was found yet.
     pub fn new(alloc: Global) -> Result<RequestHeads, AllocError> {
-        let mut headers = Vec::with_capacity(alloc, ROOM)?;
-        headers.resize(FIRST_ROOM, EMPTY_HEADER_SPAN)?;
+        let headers = places(alloc)?;
         Ok(RequestHeads { headers })
-    }
-
-    /// Makes all places.
-    fn make_room(&mut self)
-        ensures { length self.new ≡ 5462 }
-    {
-        let made = self.headers.resize(ROOM, EMPTY_HEADER_SPAN).is_ok();
-        prove!(made);
     }
 
     /// The places of the fields.
@@ -94,7 +97,7 @@ impl Piece for RequestHeads {
         if let Some(look) = look_for_head(bytes, self.headers.as_mut_slice()) {
             return look;
         }
-        self.make_room();
+        make_all(&mut self.headers);
         match look_for_head(bytes, self.headers.as_mut_slice()) {
             Some(look) => look,
             None => unreachable!(),

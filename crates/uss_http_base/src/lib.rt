@@ -28,7 +28,7 @@ pub use data::take_data;
 pub use dials::FromDial;
 pub use fields::{Framing, Values, body_framing, client_name};
 pub use halt::Halt;
-pub use heads::{Bytes, Head, ROOM, RequestHeads, head_refusal, places, take_head};
+pub use heads::{Bytes, Head, RequestHeads, head_refusal, make_all, places, take_head};
 pub use intake::{Intake, More};
 pub use line_ends::fields_may_end;
 pub use piece::{Look, PIECE_LIMIT, Piece, take_piece};

@@ -272,9 +272,9 @@ fn long_trailers(alloc: Global, filling: usize) -> u16 {
     )
 }
 
-/// A head with so many fields of three bytes; 35 bytes stand round them.
-fn head_of_fields(alloc: Global, count: usize) -> Result<Vec<u8>, AllocError> {
-    let mut bytes = bytes_of(alloc, b"GET / HTTP/1.1|USS-Client: uss1|")?;
+/// The bytes of a row, so many fields of three bytes, and an empty line of one.
+fn with_fields(alloc: Global, row: &[u8], count: usize) -> Result<Vec<u8>, AllocError> {
+    let mut bytes = bytes_of(alloc, row)?;
     for _ in 0..count {
         bytes.extend_from_slice(b"A:\n")?;
     }
@@ -282,13 +282,19 @@ fn head_of_fields(alloc: Global, count: usize) -> Result<Vec<u8>, AllocError> {
     Ok(bytes)
 }
 
-/// The number of the answer to a head with so many fields of three bytes.
-fn many_fields(alloc: Global, count: usize) -> u16 {
-    match head_of_fields(alloc, count) {
+/// The number of the answer to a row, so many fields and an empty line.
+fn many_fields(alloc: Global, row: &[u8], count: usize) -> u16 {
+    match with_fields(alloc, row, count) {
         Ok(bytes) => number(alloc, bytes.as_slice(), 1000, 0),
         Err(AllocError) => 2,
     }
 }
+
+/// A head up to its fields; 35 bytes stand round these.
+const FIELDS: &[u8] = b"GET / HTTP/1.1|USS-Client: uss1|";
+
+/// A request up to its trailers; 1 byte stands behind these.
+const TRAILERS: &[u8] = b"GET / HTTP/1.1|USS-Client: uss1|Transfer-Encoding: chunked||5|hello|0|";
 
 /// The number of the answer to a body that is cut short, where the call with this number fails.
 fn cut_body(alloc: Global, failing: u64) -> u16 {
@@ -309,11 +315,15 @@ fn limits_and_faults(rt: HostRuntime) -> Result<(), Fail> {
     assert_eq!(rt; long_head(alloc, 20000), 431);
     assert_eq!(rt; stretched(alloc, b"", 16384, b""), 431);
     // fewer fields than there is room for at first, as many, more, and as many as a head can have
-    assert_eq!(rt; many_fields(alloc, 62), 200);
-    assert_eq!(rt; many_fields(alloc, 63), 200);
-    assert_eq!(rt; many_fields(alloc, 64), 200);
-    assert_eq!(rt; many_fields(alloc, 5449), 200);
-    assert_eq!(rt; many_fields(alloc, 5450), 431);
+    assert_eq!(rt; many_fields(alloc, FIELDS, 62), 200);
+    assert_eq!(rt; many_fields(alloc, FIELDS, 63), 200);
+    assert_eq!(rt; many_fields(alloc, FIELDS, 64), 200);
+    assert_eq!(rt; many_fields(alloc, FIELDS, 5449), 200);
+    assert_eq!(rt; many_fields(alloc, FIELDS, 5450), 431);
+    assert_eq!(rt; many_fields(alloc, TRAILERS, 64), 200);
+    assert_eq!(rt; many_fields(alloc, TRAILERS, 65), 200);
+    assert_eq!(rt; many_fields(alloc, TRAILERS, 5461), 200);
+    assert_eq!(rt; many_fields(alloc, TRAILERS, 5462), 434);
     // 16 KiB, and one more
     assert_eq!(rt; long_size_line(alloc, 16380), 200);
     assert_eq!(rt; long_size_line(alloc, 16381), 434);

@@ -1,4 +1,4 @@
-ghost use Rattle.std.specs.Prelude.{◌≡◌, ◌≢◌, ℕ, ◌<◌, ◌≤◌, List, length, drop, Err, IfOk, IfErr, OnOk};
+ghost use Rattle.std.specs.Prelude.{◌≡◌, ◌≢◌, ℕ, ◌<◌, ◌≤◌, List, length, drop, Err, IfErr, IfSome, IsSome, OnOk};
 ghost use Rattle.httparse.specs.Grammar.{LineEnd, Field, print_section, ReadsSection, NeverHasSection};
 ghost use Rattle.uss_cause.specs.Cause.{Rose};
 ghost use Rattle.uss_http_base.specs.BodyAnswers.{TakesTrailers, MissesTrailers};
@@ -8,13 +8,13 @@ ghost use Rattle.uss_http_base.specs.Prompt.{IsPrompt};
 ghost use Rattle.uss_http_base.specs.Streams.{Hears, UnlessOutside};
 
 use crate::halt::Halt;
-use crate::heads::{ROOM, places};
+use crate::heads::{make_all, places};
 use crate::intake::Intake;
 use crate::line_ends::fields_may_end;
 use crate::piece::{Look, Piece, take_piece};
 use crate::stream::Stream;
-use httparse::Status;
 use httparse::spans::{HeaderSpan, parse_headers};
+use httparse::{Error, Status};
 use std::alloc::{AllocError, Global};
 use std::marker::Model;
 
@@ -25,20 +25,20 @@ pub struct Trailers {
 }
 
 impl Model for Trailers {
-    ghost use Rattle.std.specs.Prelude.{◌≡◌, List, length};
+    ghost use Rattle.std.specs.Prelude.{◌≤◌, List, vec_capacity};
     ghost use Rattle.httparse.specs.declared.spans.HeaderSpan.{HeaderSpan};
 
     ghost Value = { List HeaderSpan };
 
     ghost view = { λ t. t.headers.items };
 
-    ghost invariant = { λ t. length t.headers.items ≡ 5462 };
+    ghost invariant = { λ t. 5462 ≤ vec_capacity t.headers };
 }
 
 impl Trailers {
     /// No trailers were found yet.
     pub fn new(alloc: Global) -> Result<Trailers, AllocError> {
-        let headers = places(alloc, ROOM)?;
+        let headers = places(alloc)?;
         Ok(Trailers { headers })
     }
 }
@@ -54,7 +54,14 @@ impl Piece for Trailers {
     ghost never = { λ _ bytes. NeverHasSection bytes };
 
     fn look(&mut self, bytes: &[u8]) -> Look<usize> {
-        look_for_trailers(bytes, self.headers.as_mut_slice())
+        if let Some(look) = look_for_trailers(bytes, self.headers.as_mut_slice()) {
+            return look;
+        }
+        make_all(&mut self.headers);
+        match look_for_trailers(bytes, self.headers.as_mut_slice()) {
+            Some(look) => look,
+            None => unreachable!(),
+        }
     }
 
     fn may_end(&self, bytes: &[u8], from: usize) -> bool {
@@ -62,16 +69,17 @@ impl Piece for Trailers {
     }
 }
 
-/// What the bytes show of trailers at their front.
-fn look_for_trailers(bytes: &[u8], headers: &mut [HeaderSpan]) -> Look<usize>
-    requires limit { length bytes.now ≤ piece_limit }
-    requires room { length headers.old ≡ 5462 }
-    ensures { MatchLook result (λ len. (fields : List Field) × (end : LineEnd) × ReadsSection bytes.now fields end (drop len bytes.now)) (AreOpenTrailers bytes.now) (NeverHasSection bytes.now) }
+/// What the bytes show of trailers at their front, or none where there are fewer places than they may have fields.
+fn look_for_trailers(bytes: &[u8], headers: &mut [HeaderSpan]) -> Option<Look<usize>>
+    requires { length bytes.now ≤ piece_limit }
+    ensures look { IfSome result (λ look. MatchLook look (λ len. (fields : List Field) × (end : LineEnd) × ReadsSection bytes.now fields end (drop len bytes.now)) (AreOpenTrailers bytes.now) (NeverHasSection bytes.now)) }
+    ensures room { length headers.old ≡ 5462 → IsSome result }
 {
     match parse_headers(bytes, headers) {
-        Ok(Status::Complete((len, _))) => Look::Whole(len),
-        Ok(Status::Partial) => Look::NotYet,
-        Err(_) => Look::Never,
+        Ok(Status::Complete((len, _))) => Some(Look::Whole(len)),
+        Ok(Status::Partial) => Some(Look::NotYet),
+        Err(Error::TooManyHeaders) => None,
+        Err(_) => Some(Look::Never),
     }
 }
 

@@ -9,17 +9,14 @@ ghost use Rattle.uss_http_base.specs.Streams.{Hears};
 ghost use Rattle.uss_http_response.specs.Heads.{IsOpenHead, IsRefusedHead, end_by};
 ghost use Rattle.uss_http_response.specs.Answers.{IsHeadAt, TakesHead, MissesHead};
 
-use httparse::spans::{EMPTY_HEADER_SPAN, HeaderSpan, ResponseSpans, parse_response};
+use httparse::spans::{HeaderSpan, ResponseSpans, parse_response};
 use httparse::{Error, Status};
 use std::alloc::{AllocError, Global};
 use std::marker::Model;
 use uss_http_base::{
-    Framing, Intake, Look, Piece, ROOM, ReadRefusal, Stream, body_framing, fields_may_end,
-    head_refusal, take_piece,
+    Framing, Intake, Look, Piece, ReadRefusal, Stream, body_framing, fields_may_end, head_refusal,
+    make_all, places, take_piece,
 };
-
-/// Room for the fields at first: few heads have more.
-const FIRST_ROOM: usize = 64;
 
 /// Heads of responses, with the places of the fields of the last one that was found. There is memory for all places from
 /// the start; those behind the first are made only where a head has more fields.
@@ -42,17 +39,8 @@ impl Model for ResponseHeads {
 impl ResponseHeads {
     /// No head was found yet.
     pub fn new(alloc: Global) -> Result<ResponseHeads, AllocError> {
-        let mut headers = Vec::with_capacity(alloc, ROOM)?;
-        headers.resize(FIRST_ROOM, EMPTY_HEADER_SPAN)?;
+        let headers = places(alloc)?;
         Ok(ResponseHeads { headers })
-    }
-
-    /// Makes all places.
-    fn make_room(&mut self)
-        ensures { length self.new ≡ 5462 }
-    {
-        let made = self.headers.resize(ROOM, EMPTY_HEADER_SPAN).is_ok();
-        prove!(made);
     }
 
     /// The places of the fields.
@@ -78,7 +66,7 @@ impl Piece for ResponseHeads {
         if let Some(look) = look_for_head(bytes, self.headers.as_mut_slice()) {
             return look;
         }
-        self.make_room();
+        make_all(&mut self.headers);
         match look_for_head(bytes, self.headers.as_mut_slice()) {
             Some(look) => look,
             None => unreachable!(),
