@@ -1,5 +1,5 @@
 -- What is due finds its room.
-use Rattle.std.proofs.Common.{ℕ, ◌+◌, ◌*◌, ◌≤◌, Bool, true, false, cond, not, ◌&&◌, List, [], ◌∷◌, ◌≡◌, filter, length, get_or, refl, ap, sym, ◌∙◌, arith, is_some}
+use Rattle.std.proofs.Common.{◌+◌, ◌*◌, ◌≤◌, Bool, true, false, not, ◌&&◌, List, ◌≡◌, length, get_or, refl, arith, is_some}
 use Rattle.std.specs.Prelude.{sum_by}
 use Rattle.std.proofs.lemmas.List.Filters.{sum_by-filter_both}
 use Rattle.std.proofs.lemmas.List.Sums.{sum_by-le}
@@ -9,7 +9,7 @@ use Rattle.uss_event.specs.declared.entries.Ending.TheVariants.{Conflict, Stale,
 use Rattle.uss_event.specs.declared.entries.Entry.{Entry}
 use Rattle.uss_event.specs.declared.entries.Entry.TheVariants.{Opened, TicketOpen, Pending, Held, Deciding, Done, TicketGone, Sent}
 use Rattle.uss_event.specs.declared.entries.Entry.TheVariants as Enters
-use Rattle.uss_law_book.specs.Readings.{is_closed, is_ticket_open, decision_of, owed_at_end}
+use Rattle.uss_law_book.specs.Readings.{is_ticket_open, decision_of, owed_at_end}
 use Rattle.uss_law_book.specs.Coding.{HasCoding, IsEnding, AreOwed, subscriber_length, owed_length, ending_length, record_length, journal_length}
 use Rattle.uss_law_book.specs.Legal.{IsDue, IsLegal, is_owner}
 use Rattle.uss_law_book.specs.Reserve.{need, is_reserved, reserved}

@@ -62,12 +62,12 @@ module _ {D : Type 0} (may_leave : D → List ℕ → Type 0) (is_honest : D →
       → (is_honest new.disk → (image : List ℕ) → may_leave new.disk image → StandsFor new.records image)
       → IsWhole may_leave is_honest new now spent tried used'
   entered_whole fault_count now used' done last is_used durable =
-      let records : new.records ≡ records_of now = done.last ∙ records_after es e old.records bytes (whole.records unspent) coded ∙ ap records_of (sym last) in
+      let records : new.records ≡ records_of now = done.last ∙ records_after es e old.records bytes whole.records coded ∙ ap records_of (sym last) in
       record {
         legal = subst IsLegal (sym last) (legal_longer [] es e whole.legal m);
         used_is = is_used ∙ ap used_of records ∙ used_is now;
         unspent = λ none. done.reopened;
-        records = λ none. records;
+        records = records;
         untried = whole.untried;
         follows = subst (λ (t : Option Entry). IfSome t (MayFollow now)) (sym (whole.untried unspent)) tt;
         left = λ honest image may. inl (durable honest image may ∙ ap (λ (rs : List (List ℕ)). Ok rs) records);
@@ -83,11 +83,11 @@ module _ {D : Type 0} (may_leave : D → List ℕ → Type 0) (is_honest : D →
         legal = whole.legal;
         used_is = whole.used_is;
         unspent = λ none. absurd (cc);
-        records = λ none. absurd (cc);
+        records = fault.records ∙ whole.records;
         untried = λ none. absurd (cc);
         follows = m;
-        left = λ honest image may. with_book es e old.records bytes image (whole.records unspent) coded (left honest image may);
-        agrees = λ honest image p. with_book es e old.records bytes image (whole.records unspent) coded
+        left = λ honest image may. with_book es e old.records bytes image whole.records coded (left honest image may);
+        agrees = λ honest image p. with_book es e old.records bytes image whole.records coded
             (subst (λ (t : Option (List ℕ)). WithOrWithout old.records t image) fault.tried (subst (λ (rs : List (List ℕ)). WithOrWithout rs new.tried image) fault.records p));
       })
 

@@ -8,15 +8,15 @@ use Rattle.uss_law_book.specs.Lists.{owner_of}
 use Rattle.uss_law_book.specs.Legal.{MayFollow, IsLegal}
 use Rattle.uss_coding.specs.Coding.{coding_of}
 
--- a book: its disk; its entries, the oldest first; where it is spent, its disk's count of faults when it last answered a fault, or
--- when it last read other records than its own; the entry that it had tried to enter when it answered a fault, if it had tried one;
--- and the records of its journal, which are those of its entries while it isn't spent
+-- a book: its disk; its entries, the oldest first; where it is spent, its disk's count of faults when it last answered a fault; the
+-- entry that it had tried to enter when it answered a fault, if it had tried one; and the records that a remount found which was
+-- refused, unless an entry was entered or its disk was read again since
 pub record BookView (D : Type 0) : Type 0 where
   pub disk : D
   pub entries : List Entry
   pub spent : Option ℕ
   pub tried : Option Entry
-  pub records : List (List ℕ)
+  pub found : Option (List (List ℕ))
 
 -- the records of a book
 abbrev pub records_of : List Entry → List (List ℕ)

@@ -30,6 +30,7 @@ pub record Entered {D : Type 0} (old : BookView D) (e : Entry) (new : BookView D
   pub last : new.entries ≡ old.entries ++ e ∷ []
   pub reopened : new.spent ≡ None
   pub settled : new.tried ≡ None
+  pub forgotten : new.found ≡ None
 
 -- a fault of the disk while an entry is entered: the count rose, the entries are those that were known, and the book is spent
 pub record EnterFaulted {D : Type 0} (fault_count : D → ℕ) (old : BookView D) (e : Entry) (new : BookView D) : Type 0 where
@@ -38,6 +39,7 @@ pub record EnterFaulted {D : Type 0} (fault_count : D → ℕ) (old : BookView D
   pub entries : new.entries ≡ old.entries
   pub spent : new.spent ≡ Some (fault_count new.disk)
   pub tried : new.tried ≡ Some e
+  pub forgotten : new.found ≡ None
 
 -- each refusal of an enter, with its cause: a full journal is none of them
 abbrev pub EnterRefused : {D : Type 0} (fault_count : D → ℕ) (old : BookView D) (e : Entry) (fault : BookFault) (new : BookView D) → Type 0

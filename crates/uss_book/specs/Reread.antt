@@ -1,8 +1,10 @@
 -- What comes of reading a book again. This project's own.
-use Rattle.std.specs.Prelude.{◌≡◌, ◌⊎◌, ℕ, List, ◌++◌, Option, Some, None}
+use Rattle.std.specs.Prelude.{◌≡◌, ℕ, List, ◌++◌, Option, Some, None}
 use Rattle.uss_cause.specs.Cause.{Rose}
 use Rattle.uss_event.specs.declared.entries.Owner.{Owner}
 use Rattle.uss_event.specs.declared.entries.Entry.{Entry}
+use Rattle.uss_journal.specs.Journal.{JournalView}
+use Rattle.uss_journal.specs.Refusal.{RemountFaulted, SameButDisk}
 use Rattle.uss_law_book.specs.Lists.{owner_of}
 use Rattle.uss_law_book.specs.Legal.{IsLegal}
 use Rattle.uss_book.specs.declared.refusal.BookFault.{BookFault}
@@ -58,7 +60,55 @@ IsOfReading DiskFault = ⊥
 IsOfReading (NotAJournal place) = ⊥
 IsOfReading (Spent count) = ⊥
 
--- by which count a book is spent after its journal refused to be mounted again
+-- the refusal isn't 143
+abbrev pub IsReadable : BookFault → Type 0
+IsReadable (NotAJournal place) = ⊥
+IsReadable (BadEntry n) = Unit {0}
+IsReadable (OtherOwner kept) = Unit {0}
+IsReadable (Changed n) = Unit {0}
+IsReadable Memory = Unit {0}
+IsReadable DiskFault = Unit {0}
+IsReadable (Spent count) = Unit {0}
+
+-- no records need have been found for it: 141, 143 or want of memory
+abbrev pub IsUnread : BookFault → Type 0
+IsUnread DiskFault = Unit {0}
+IsUnread (NotAJournal place) = Unit {0}
+IsUnread Memory = Unit {0}
+IsUnread (BadEntry n) = ⊥
+IsUnread (OtherOwner kept) = ⊥
+IsUnread (Changed n) = ⊥
+IsUnread (Spent count) = ⊥
+
+-- where 151, 152 and 154 come: by the records that were found
+abbrev pub IsByFound : (known : List Entry) (found : Option (List (List ℕ))) (fault : BookFault) → Type 0
+IsByFound known None fault = IsUnread fault
+IsByFound known (Some records) fault = IsByRecords known records fault
+
+-- the journal took over what it had found, which are the records of these entries
+pub record IsTaken {D : Type 0} (entries : List Entry) (journal : JournalView D) : Type 0 where
+  pub records : journal.records ≡ records_of entries
+  pub reopened : journal.spent ≡ None
+  pub settled : journal.tried ≡ None
+  pub forgotten : journal.found ≡ None
+
+-- the journal is as it was, but for its disk and what it found
+pub record IsKnown {D : Type 0} (old new : JournalView D) : Type 0 where
+  pub records : new.records ≡ old.records
+  pub spent : new.spent ≡ old.spent
+  pub tried : new.tried ≡ old.tried
+
+-- the journal after such a refusal: 141 leaves it spent, and after that and 143 it found nothing
+abbrev pub StaysKnown : {D : Type 0} (fault_count : D → ℕ) (old : JournalView D) (fault : BookFault) (new : JournalView D) → Type 0
+StaysKnown fault_count old DiskFault new = RemountFaulted fault_count old new
+StaysKnown fault_count old (NotAJournal place) new = SameButDisk old new
+StaysKnown fault_count old Memory new = IsKnown old new
+StaysKnown fault_count old (BadEntry n) new = IsKnown old new
+StaysKnown fault_count old (OtherOwner kept) new = IsKnown old new
+StaysKnown fault_count old (Changed n) new = IsKnown old new
+StaysKnown fault_count old (Spent count) new = ⊥
+
+-- by which count a book is spent after a refusal to be mounted again
 abbrev pub after_refusal : BookFault → Option ℕ → ℕ → Option ℕ
 after_refusal DiskFault spent faults = Some faults
 after_refusal Memory spent faults = spent
@@ -68,30 +118,30 @@ after_refusal (BadEntry n) spent faults = spent
 after_refusal (OtherOwner kept) spent faults = spent
 after_refusal (Changed n) spent faults = spent
 
--- by which count a book is spent whose journal has other records: the one that it had, or that of its disk
-abbrev pub apart : Option ℕ → ℕ → Option ℕ
-apart None faults = Some faults
-apart (Some count) faults = Some count
-
--- a book that was mounted again: its entries are those of the records that were read, and it goes on from the entries that were known
+-- a book that was mounted again: it goes on from the entries that were known, and what was found are its records
 pub record Remounted {D : Type 0} (old new : BookView D) : Type 0 where
   pub begins : BeginsWith new.entries old.entries
-  pub found : records_of new.entries ≡ new.records
   pub reopened : new.spent ≡ None
   pub settled : new.tried ≡ None
+  pub forgotten : new.found ≡ None
 
 -- a book that wasn't mounted again has its entries, and the one that was tried
 pub record StaysSo {D : Type 0} (old new : BookView D) : Type 0 where
   pub entries : new.entries ≡ old.entries
   pub tried : new.tried ≡ old.tried
 
--- Each refusal of a remount, with its cause. After want of memory, and where other records were read, a book that wasn't spent may
--- be so. At 143 no records were read, so that it can't stand in the place of 151, 152 or 154.
+-- it is as it was, but for its disk and what was found
+pub record StaysAsItWas {D : Type 0} (old new : BookView D) : Type 0 where
+  pub stays : StaysSo old new
+  pub spent : new.spent ≡ old.spent
+
+-- Each refusal of a remount, with its cause. At 141 and 143 no records were found, so that they can't stand in the place of 151, 152 or
+-- 154.
 abbrev pub RemountRefused : {D : Type 0} (fault_count : D → ℕ) (old : BookView D) (fault : BookFault) (new : BookView D) → Type 0
-RemountRefused fault_count old DiskFault new = StaysSo old new × Rose (fault_count old.disk) (fault_count new.disk) × (new.spent ≡ Some (fault_count new.disk))
-RemountRefused fault_count old (NotAJournal place) new = StaysSo old new × (new.spent ≡ old.spent) × (new.records ≡ old.records)
-RemountRefused fault_count old Memory new = StaysSo old new × ((new.spent ≡ old.spent) ⊎ (new.spent ≡ apart old.spent (fault_count new.disk)))
-RemountRefused fault_count old (BadEntry n) new = StaysSo old new × (new.spent ≡ apart old.spent (fault_count new.disk))
-RemountRefused fault_count old (OtherOwner kept) new = StaysSo old new × (new.spent ≡ apart old.spent (fault_count new.disk))
-RemountRefused fault_count old (Changed n) new = StaysSo old new × (new.spent ≡ apart old.spent (fault_count new.disk))
+RemountRefused fault_count old DiskFault new = StaysSo old new × Rose (fault_count old.disk) (fault_count new.disk) × (new.spent ≡ Some (fault_count new.disk)) × (new.found ≡ None)
+RemountRefused fault_count old (NotAJournal place) new = StaysAsItWas old new × (new.found ≡ None)
+RemountRefused fault_count old Memory new = StaysAsItWas old new
+RemountRefused fault_count old (BadEntry n) new = StaysAsItWas old new
+RemountRefused fault_count old (OtherOwner kept) new = StaysAsItWas old new
+RemountRefused fault_count old (Changed n) new = StaysAsItWas old new
 RemountRefused fault_count old (Spent count) new = ⊥

@@ -6,14 +6,14 @@ use Rattle.uss_law_book.specs.Coding.{journal_length}
 use Rattle.uss_law_book.specs.Legal.{MayFollow, IsLegal}
 use Rattle.uss_book.specs.Book.{records_of, BookWithOrWithout}
 
--- A book is legal, and an entry that was tried may follow. While it isn't spent, its journal isn't either and has the records of its
--- entries. Whatever a crash leaves of an honest
--- disk, or may leave while its journal is mounted again, stands for the entries, or for these with the one that was tried.
+-- A book is legal, an entry that was tried may follow, and its journal has the records of its entries. While it isn't spent, its journal
+-- isn't either. Whatever a crash leaves of an honest disk, or may leave while its journal is mounted again, stands for the entries, or for
+-- these with the one that was tried.
 pub record IsWhole {D : Type 0} (may_leave : D → List ℕ → Type 0) (is_honest : D → Type 0) (journal : JournalView D) (entries : List Entry) (spent : Option ℕ) (tried : Option Entry) (used : ℕ) : Type 0 where
   pub legal : IsLegal entries
   pub used_is : used ≡ journal_length entries
   pub unspent : spent ≡ None → journal.spent ≡ None
-  pub records : spent ≡ None → journal.records ≡ records_of entries
+  pub records : journal.records ≡ records_of entries
   pub untried : spent ≡ None → tried ≡ None
   pub follows : IfSome tried (MayFollow entries)
   pub left : is_honest journal.disk → (image : List ℕ) → may_leave journal.disk image → BookWithOrWithout entries tried image

@@ -14,13 +14,13 @@ ghost use Rattle.uss_law_book.specs.Reserve.{need};
 ghost use Rattle.uss_legal.specs.Speaks.{trial_in};
 ghost use Rattle.uss_book.specs.Book.{StandsForBook, BookWithOrWithout, IsFound, MountLeaves, new_book, records_of};
 ghost use Rattle.uss_book.specs.Refusal.{Entered, EnterRefused, MountRefused, RefusedBy, SaysNothing, IsAnothers, IsLeft, UnlessFault, disk_after};
-ghost use Rattle.uss_book.specs.Reread.{Remounted, RemountRefused, IsByRecords};
+ghost use Rattle.uss_book.specs.Reread.{Remounted, RemountRefused, IsByFound};
 
 use crate::append::{Outcome, append, discard, keep_tried, prepare};
-use crate::load::{load, passed_on};
+use crate::load::load;
 use crate::owner::{into_owner, is_of};
 use crate::readers::{job_of, request_of};
-use crate::reread::{after_refusal, apart, forget, reread};
+use crate::reread::{after_refusal, forget, reread};
 use crate::start::start;
 use crate::{BookFault, BookRefusal};
 use std::alloc::Global;
@@ -38,7 +38,7 @@ pub struct Book<D: Disk> {
     alloc: Global,
     journal: Journal<D>,
     pub(crate) kept: Entries,
-    // Where the book is spent: by which count of faults. Its journal may then be spent too, or have other records than the book.
+    // Where the book is spent: by which count of faults.
     spent: Option<u64>,
     // The entry that was tried when the book was spent, if one was.
     tried: Option<Entry>,
@@ -52,7 +52,7 @@ impl<D: Disk> Model for Book<D> {
 
     ghost Value = { BookView D };
 
-    ghost view = { λ b. record { disk = b.journal.disk; entries = b.kept.entries; spent = b.spent; tried = b.tried; records = b.journal.records } };
+    ghost view = { λ b. record { disk = b.journal.disk; entries = b.kept.entries; spent = b.spent; tried = b.tried; found = b.journal.found } };
 
     ghost invariant = { λ b. IsWhole D.may_leave D.is_honest b.journal b.kept.entries b.spent b.tried b.used };
 }
@@ -226,13 +226,12 @@ impl<D: Disk> Book<D> {
         }
     }
 
-    /// Mounts again what its own disk holds: its entries, or these with the one that was tried. After a refusal the entries stay. A
-    /// book is spent after a fault and after other records than its own were read, and may be so after want of memory; after 143 it is
-    /// as it was, but for its disk.
+    /// Mounts again what its own disk holds: its entries, or these with the one that was tried. After a refusal the book is as it was,
+    /// and may be mounted again; a fault of the disk leaves it spent.
     pub fn remount(&mut self) -> Result<(), BookFault>
         ensures answer { MatchResult result (λ _. Remounted self.old self.new) (λ r. RemountRefused D.fault_count self.old r self.new) }
-        // The records that were read are the cause of 151, 152 and 154; on an honest disk none of these comes.
-        ensures records { IfErr result (IsByRecords self.old.entries self.new.records) }
+        // The records that were found are the cause of 151, 152 and 154; on an honest disk none of these comes.
+        ensures records { IfErr result (IsByFound self.old.entries self.new.found) }
         ensures count { D.fault_count self.old.disk ≤ D.fault_count self.new.disk }
         ensures calm { OnOk result (D.fault_count self.new.disk ≡ D.fault_count self.old.disk) }
         ensures honest { D.is_honest self.new.disk ↔ D.is_honest self.old.disk }
@@ -247,12 +246,7 @@ impl<D: Disk> Book<D> {
         ensures crash { D.is_honest self.old.disk → CrashLeaves D.moment D.left_since
             (BookWithOrWithout self.old.entries self.old.tried) self.old.disk self.new.disk }
     {
-        if let Err(refusal) = self.journal.remount() {
-            let fault = passed_on(refusal);
-            self.spent = after_refusal(&fault, self.spent, self.journal.faults());
-            return Err(fault);
-        }
-        match reread(self.alloc, &self.journal, self.kept.as_slice()) {
+        match reread(self.alloc, &mut self.journal, self.kept.as_slice()) {
             Ok(kept) => {
                 self.used = self.journal.used();
                 self.kept = kept;
@@ -261,7 +255,7 @@ impl<D: Disk> Book<D> {
                 Ok(())
             }
             Err(fault) => {
-                self.spent = apart(self.spent, self.journal.faults());
+                self.spent = after_refusal(&fault, self.spent, self.journal.faults());
                 Err(fault)
             }
         }

@@ -9,9 +9,8 @@ ghost use Rattle.uss_book.specs.Refusal.{Misread};
 use crate::BookFault;
 use std::alloc::{AllocError, Global};
 use uss_coding::read;
-use uss_disk::Disk;
 use uss_entries::Entries;
-use uss_journal::Journal;
+use uss_journal::Records;
 
 /// Whether a record's bytes are the coding of an entry that may follow those that are kept: the entry is then kept too.
 fn judge(alloc: Global, kept: &mut Entries, bytes: &[u8]) -> Result<bool, AllocError>
@@ -29,15 +28,15 @@ fn judge(alloc: Global, kept: &mut Entries, bytes: &[u8]) -> Result<bool, AllocE
     Ok(true)
 }
 
-/// The entries whose codings the journal's records are, or the number of the first that is bad.
-pub(crate) fn entries_of<D: Disk>(alloc: Global, journal: &Journal<D>) -> Result<Entries, BookFault>
+/// The entries whose codings the records are, or the number of the first that is bad.
+pub(crate) fn entries_of(alloc: Global, records: &Records<'_>) -> Result<Entries, BookFault>
     ensures legal { IfOk result (λ k. IsLegal k.entries) }
-    ensures found { IfOk result (λ k. records_of k.entries ≡ journal.now.records) }
-    ensures refused { IfErr result (Misread journal.now.records) }
+    ensures found { IfOk result (λ k. records_of k.entries ≡ records.now) }
+    ensures refused { IfErr result (Misread records.now) }
 {
     let mut kept = Entries::new(alloc);
-    for n in 0..journal.count() {
-        let record = journal.item(n).unwrap();
+    for n in 0..records.count() {
+        let record = records.item(n).unwrap();
         if !judge(alloc, &mut kept, record)? {
             return Err(BookFault::BadEntry(n as u64));
         }

@@ -56,7 +56,7 @@ pub(crate) fn load<D: Disk>(alloc: Global, disk: D) -> Result<(Journal<D>, Entri
             });
         }
     };
-    match entries_of(alloc, &journal) {
+    match entries_of(alloc, &journal.records()) {
         Ok(kept) => Ok((journal, kept)),
         Err(refusal) => Err(BookRefusal {
             refusal,

@@ -12,8 +12,7 @@ pub enum BookFault {
     DiskFault,
     /// 143: the file is no journal, by this place.
     NotAJournal(u64),
-    /// 144: the book answered 141, or a remount read other records than its own or lacked the memory to compare them, and it wasn't mounted
-    /// again since. The number is its disk's count of faults then.
+    /// 144: the book answered 141, and it wasn't mounted again since. The number is its disk's count of faults then.
     Spent(u64),
     /// 151: the record with this number, from 0, isn't the coding of an entry, or of one that may follow those before it.
     BadEntry(u64),

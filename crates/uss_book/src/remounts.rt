@@ -134,15 +134,17 @@ fn an_entry_that_met_a_fault_is_there_or_not(rt: HostRuntime) -> Result<(), Fail
     Ok(())
 }
 
-// A new book over a disk that reads as the first of two files, and as the other when it is read again.
+// A book of these three over a disk that reads as another file when it is read again: behind the sync with this number, of which the
+// first is the mount's.
 fn turning(
     rt: &impl Abort,
     alloc: Global,
-    first: &[Coding],
     then: Vec<u8>,
+    turns: u64,
+    failing: u64,
 ) -> Result<Option<Book<Turning>>, AllocError> {
     let owner = owner_of(rt, alloc)?;
-    let disk = Turning::new(file_of(alloc, first)?, then);
+    let disk = Turning::new(file_of(alloc, &KNOWN)?, then, turns, failing);
     match Book::mount(alloc, disk, owner) {
         Ok(book) => Ok(Some(book)),
         Err(_) => Ok(None),
@@ -176,8 +178,7 @@ const REREAD: [(&[Coding], u64, u16, u64); 8] = [
     (&[Coding::OtherNumber, Coding::Plan], 0, 152, 8),
 ];
 
-// Whether a remount answers so, and a refusal leaves the book as it was, which is mounted again where its disk reads as at first. It is
-// spent, by the count 0, unless by 143.
+// Whether a remount answers so, and a refusal leaves the book as it was: the next attempt is entered.
 fn is_reread<D: Disk>(
     rt: &impl Abort,
     alloc: Global,
@@ -187,15 +188,12 @@ fn is_reread<D: Disk>(
     if remounted(book) != wanted {
         return Ok(false);
     }
-    if wanted.number == 0 {
-        return Ok(
-            tried(rt, alloc, book, next(wanted.entries))? == kept(wanted.entries.saturating_add(1)),
-        );
-    }
-    if wanted.number == 143 {
-        return Ok(book.len() == 3 && remounted(book) == kept(3));
-    }
-    is_open_again(rt, alloc, book, 0, 3)
+    let entries = if wanted.number == 0 {
+        wanted.entries
+    } else {
+        3
+    };
+    Ok(tried(rt, alloc, book, next(entries))? == kept(entries.saturating_add(1)))
 }
 
 // Whether that is so of a book whose disk then reads as this file.
@@ -205,7 +203,7 @@ fn is_reread_as(
     file: Vec<u8>,
     wanted: Got,
 ) -> Result<bool, AllocError> {
-    match turning(rt, alloc, &KNOWN, file)? {
+    match turning(rt, alloc, file, 2, 0)? {
         Some(mut book) => is_reread(rt, alloc, &mut book, wanted),
         None => Ok(false),
     }
@@ -240,6 +238,40 @@ fn a_book_is_read_as_no_journal(rt: HostRuntime) -> Result<(), Fail> {
     Ok(())
 }
 
+// Whether a book that is spent stays so, by the same count, when its file is read differently, and is open again when it isn't.
+fn stays_spent<D: Disk>(
+    rt: &impl Abort,
+    alloc: Global,
+    book: &mut Book<D>,
+    wanted: Got,
+) -> Result<bool, AllocError> {
+    let is_spent = remounted(book) == refused(141, 0);
+    let differs = remounted(book) == wanted;
+    Ok(is_spent && differs && is_open_again(rt, alloc, book, 1, 3)?)
+}
+
+// Whether that is so where it then reads as this file: the second sync fails, and the third finds it.
+fn stays_spent_by(
+    rt: &impl Abort,
+    alloc: Global,
+    file: Vec<u8>,
+    wanted: Got,
+) -> Result<bool, AllocError> {
+    match turning(rt, alloc, file, 3, 2)? {
+        Some(mut book) => stays_spent(rt, alloc, &mut book, wanted),
+        None => Ok(false),
+    }
+}
+
+#[test]
+fn a_spent_book_is_read_differently(rt: HostRuntime) -> Result<(), Fail> {
+    let shorter = file_of(rt.alloc(), &[Coding::Owner])?;
+    assert!(rt; stays_spent_by(&rt, rt.alloc(), shorter, refused(154, 1))?);
+    let other = Vec::from_slice(rt.alloc(), b"notajournal!")?;
+    assert!(rt; stays_spent_by(&rt, rt.alloc(), other, refused(143, 0))?);
+    Ok(())
+}
+
 // Whether an entry that the disk lost is missed.
 fn is_missed<D: Disk>(
     rt: &impl Abort,
@@ -252,7 +284,7 @@ fn is_missed<D: Disk>(
 
 // Whether that is so of a book on a disk that loses what is written.
 fn is_lost(rt: &impl Abort, alloc: Global) -> Result<bool, AllocError> {
-    match turning(rt, alloc, &KNOWN, Vec::new(alloc))? {
+    match turning(rt, alloc, Vec::new(alloc), 0, 0)? {
         Some(mut book) => is_missed(rt, alloc, &mut book),
         None => Ok(false),
     }

@@ -1,27 +1,36 @@
 // A disk in memory that isn't honest.
 ghost use Rattle.std.specs.Prelude.{ℕ, List};
 
+use uss_cause::raised;
 use uss_disk::{Disk, DiskFault};
 
-// It reads as its first file, but between its second sync and its third as the other one. What is written is lost. No call fails.
+// It reads as its first file, but behind one of its syncs, until the next one, as the other file. One sync may fail, and no other call
+// does. What is written is lost.
 #[derive(Drop)]
 pub(crate) struct Turning {
     first: Vec<u8>,
     then: Vec<u8>,
+    turns: u64,
+    failing: u64,
     syncs: u64,
+    faults: u64,
 }
 
 impl Turning {
-    pub(crate) fn new(first: Vec<u8>, then: Vec<u8>) -> Turning {
+    // It reads as the other file behind the sync with the number `turns`, from 1; the one with the number `failing` fails, if any has it.
+    pub(crate) fn new(first: Vec<u8>, then: Vec<u8>, turns: u64, failing: u64) -> Turning {
         Turning {
             first,
             then,
+            turns,
+            failing,
             syncs: 0,
+            faults: 0,
         }
     }
 
     fn file(&self) -> &[u8] {
-        if self.syncs == 2 {
+        if self.syncs == self.turns {
             &self.then
         } else {
             &self.first
@@ -42,7 +51,7 @@ impl Disk for Turning {
 
     ghost is_honest = { λ _. ⊥ };
 
-    ghost fault_count = { λ _. 0 };
+    ghost fault_count = { λ d. d.faults };
 
     fn len(&mut self) -> Result<u64, DiskFault> {
         Ok(self.file().len() as u64)
@@ -69,11 +78,15 @@ impl Disk for Turning {
 
     fn sync(&mut self) -> Result<(), DiskFault> {
         self.syncs = self.syncs.saturating_add(1);
+        if self.syncs == self.failing {
+            self.faults = raised(self.faults);
+            return Err(DiskFault);
+        }
         Ok(())
     }
 
     fn faults(&self) -> u64 {
-        0
+        self.faults
     }
 
     ghost tells = { λ _ honest. absurd honest };

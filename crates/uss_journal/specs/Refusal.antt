@@ -14,6 +14,7 @@ pub record Appended {D : Type 0} (old : JournalView D) (entry : List ℕ) (new :
   pub last : new.records ≡ old.records ++ entry ∷ []
   pub reopened : new.spent ≡ None
   pub settled : new.tried ≡ None
+  pub forgotten : new.found ≡ None
 
 -- A fault of the disk within an append: its count of faults rose, the records are those that were known, and the journal
 -- is spent.
@@ -24,6 +25,7 @@ pub record AppendFaulted {D : Type 0} (fault_count : D → ℕ) (old : JournalVi
   pub records : new.records ≡ old.records
   pub spent : new.spent ≡ Some (fault_count new.disk)
   pub tried : new.tried ≡ Some entry
+  pub forgotten : new.found ≡ None
 
 -- each refusal of an append, with its cause
 abbrev pub AppendRefused : {D : Type 0} (fault_count : D → ℕ) (old : JournalView D) (entry : List ℕ) (refusal : JournalRefusal) (new : JournalView D) → Type 0
@@ -33,18 +35,36 @@ AppendRefused fault_count old entry Memory new = (old.spent ≡ None) × (used_o
 AppendRefused fault_count old entry DiskFault new = AppendFaulted fault_count old entry new
 AppendRefused fault_count old entry (NotAJournal place) new = ⊥
 
+-- A file that was read again: the journal is as it was but for its disk, and what was found is kept beside its records.
+pub record Reread {D : Type 0} (old new : JournalView D) : Type 0 where
+  pub records : new.records ≡ old.records
+  pub spent : new.spent ≡ old.spent
+  pub tried : new.tried ≡ old.tried
+  pub read : List (List ℕ)
+  pub found : new.found ≡ Some read
+
+-- What was found is taken over: the journal isn't spent, on the same disk.
+pub record Adopted {D : Type 0} (old : JournalView D) (found : List (List ℕ)) (new : JournalView D) : Type 0 where
+  pub disk : new.disk ≡ old.disk
+  pub records : new.records ≡ found
+  pub reopened : new.spent ≡ None
+  pub settled : new.tried ≡ None
+  pub forgotten : new.found ≡ None
+
 -- A fault of the disk within a remount: its count of faults rose, and the journal is spent.
 pub record RemountFaulted {D : Type 0} (fault_count : D → ℕ) (old new : JournalView D) : Type 0 where
   pub cause : Rose (fault_count old.disk) (fault_count new.disk)
   pub records : new.records ≡ old.records
   pub spent : new.spent ≡ Some (fault_count new.disk)
   pub tried : new.tried ≡ old.tried
+  pub forgotten : new.found ≡ None
 
--- the journal is as it was, but for its disk
+-- the journal is as it was, but for its disk, and nothing was found
 pub record SameButDisk {D : Type 0} (old new : JournalView D) : Type 0 where
   pub records : new.records ≡ old.records
   pub spent : new.spent ≡ old.spent
   pub tried : new.tried ≡ old.tried
+  pub forgotten : new.found ≡ None
 
 -- each refusal of a remount, with its cause
 abbrev pub RemountRefused : {D : Type 0} (fault_count : D → ℕ) (old : JournalView D) (refusal : JournalRefusal) (new : JournalView D) → Type 0

@@ -2,7 +2,8 @@
 use Rattle.std.specs.Prelude.{◌≡◌, ◌↔◌, ℕ, ◌+◌, ◌≤◌, List, length, take, Option, None}
 use Rattle.uss_disk.specs.Disk.{bytes_of, Only, SameMeaning}
 use Rattle.uss_journal.specs.Gates.{Gated, records_between, tried_of}
-use Rattle.uss_journal.specs.Journal.{WithOrWithout}
+use Rattle.uss_journal.specs.Journal.{StandsFor, WithOrWithout}
+use Rattle.uss_journal.specs.declared.known.Known.{Known}
 
 -- all of the file is on the medium, and it begins with the bytes that are known
 pub record IsSettled (known file : List ℕ) (may_leave : List ℕ → Type 0) : Type 0 where
@@ -21,6 +22,14 @@ pub record IsSound {D : Type 0} (reads : D → Option (List ℕ)) (may_leave : D
   pub whole : spent ≡ None → length known ≡ last + 1
   pub settled : is_honest disk → spent ≡ None → IsSettled known (bytes_of (reads disk)) (may_leave disk)
   pub left : is_honest disk → (image : List ℕ) → may_leave disk image → WithOrWithout (records_between known 8 gates) (tried_of known last) image
+
+-- What was read of the file again is as a journal that was just mounted has it: nothing stands behind the last gate, which
+-- is closed, and on an honest disk all of the file is on the medium.
+pub record IsReady {D : Type 0} (reads : D → Option (List ℕ)) (may_leave : D → List ℕ → Type 0) (is_honest : D → Type 0) (disk : D) (known : Known) : Type 0 where
+  pub gated : Gated known.bytes.items known.gates.items known.last
+  pub whole : length known.bytes.items ≡ known.last + 1
+  pub settled : is_honest disk → IsSettled known.bytes.items (bytes_of (reads disk)) (may_leave disk)
+  pub left : is_honest disk → (image : List ℕ) → may_leave disk image → StandsFor (records_between known.bytes.items 8 known.gates.items) image
 
 -- Calls that only looked at the disk: it is honest exactly where it was, its count of faults hasn't fallen, and on an
 -- honest disk no meaning has changed.

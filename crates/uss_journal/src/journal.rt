@@ -1,5 +1,5 @@
 // A journal of records, each durable once it was appended.
-ghost use Rattle.std.specs.Prelude.{◌≡◌, ◌↔◌, ◌≤◌, ◌∷◌, ◌++◌, List, ℕ, length, slice_get, Some, None, ◌⊎◌, MatchResult, IfOk, IfErr, OnOk};
+ghost use Rattle.std.specs.Prelude.{◌≡◌, ◌↔◌, ◌≤◌, ◌∷◌, ◌++◌, List, ℕ, length, slice_get, Some, None, ◌⊎◌, MatchResult, MatchOption, IfOk, IfErr, IfSome, OnOk};
 ghost use Rattle.std.specs.Option.{option_copied};
 ghost use Rattle.uss_disk.specs.Disk.{bytes_of, CrashLeaves};
 ghost use Rattle.uss_journal.specs.Format.{stands_for, used_of};
@@ -8,9 +8,10 @@ ghost use Rattle.uss_journal.specs.Journal.{StandsFor, WithOrWithout, with_appen
 use crate::known::Known;
 use crate::load::load;
 use crate::staged::commit;
-use crate::{JournalRefusal, MountRefusal};
+use crate::{JournalRefusal, MountRefusal, Records};
 use std::alloc::Global;
 use std::marker::Model;
+use std::mem;
 use uss_disk::Disk;
 
 /// The most bytes of a journal, up to and with its last gate.
@@ -24,28 +25,33 @@ pub struct Journal<D: Disk> {
     disk: D,
     known: Known,
     spent: Option<u64>,
+    // What the file was read as again, until the journal takes it over, appends or reads it once more.
+    found: Option<Known>,
 }
 
 impl<D: Disk> Model for Journal<D> {
+    ghost use Rattle.std.specs.Prelude.{IfSome};
     ghost use Rattle.uss_journal.specs.Journal.{JournalView};
     ghost use Rattle.uss_journal.specs.Gates.{records_between, tried_of};
-    ghost use Rattle.uss_journal.specs.Sound.{IsSound};
+    ghost use Rattle.uss_journal.specs.Known.{records_found};
+    ghost use Rattle.uss_journal.specs.Sound.{IsSound, IsReady};
 
     ghost Value = { JournalView D };
 
-    ghost view = { λ j. record { disk = j.disk; records = records_between j.known.bytes.items 8 j.known.gates.items; spent = j.spent; tried = tried_of j.known.bytes.items j.known.last } };
+    ghost view = { λ j. record { disk = j.disk; records = records_between j.known.bytes.items 8 j.known.gates.items; spent = j.spent; tried = tried_of j.known.bytes.items j.known.last; found = records_found j.found } };
 
-    ghost invariant = { λ j. IsSound D.reads D.may_leave D.is_honest j.disk j.known.bytes.items j.known.gates.items j.known.last j.spent };
+    ghost invariant = { λ j. IsSound D.reads D.may_leave D.is_honest j.disk j.known.bytes.items j.known.gates.items j.known.last j.spent
+        × IfSome j.found (IsReady D.reads D.may_leave D.is_honest j.disk) };
 }
 
 impl<D: Disk> Journal<D> {
-    ghost use Rattle.uss_journal.specs.Refusal.{Appended, AppendRefused, RemountRefused, MountRefused, RefusedBy, UnlessFault, disk_after};
+    ghost use Rattle.uss_journal.specs.Refusal.{Appended, AppendRefused, Reread, Adopted, RemountRefused, MountRefused, RefusedBy, UnlessFault, disk_after};
 
     /// Mounts the journal that the disk's file holds. Begins with a sync, and makes a new, empty journal of a file of at
     /// most nine bytes.
     pub fn mount(alloc: Global, disk: D) -> Result<Journal<D>, MountRefusal<D>>
         ensures refused { IfErr result (λ r. MountRefused (D.fault_count disk) (D.fault_count r.back) r.refusal) }
-        ensures unspent { IfOk result (λ j. (j.spent ≡ None) × (j.tried ≡ None)) }
+        ensures unspent { IfOk result (λ j. (j.spent ≡ None) × (j.tried ≡ None) × (j.found ≡ None)) }
         ensures count { D.fault_count disk ≤ D.fault_count (disk_after result) }
         ensures calm { IfOk result (λ j. D.fault_count j.disk ≡ D.fault_count disk) }
         ensures honest { D.is_honest (disk_after result) ↔ D.is_honest disk }
@@ -68,6 +74,7 @@ impl<D: Disk> Journal<D> {
                 disk,
                 known,
                 spent: None,
+                found: None,
             }),
             Err(refusal) => Err(MountRefusal {
                 refusal,
@@ -100,6 +107,7 @@ impl<D: Disk> Journal<D> {
             return Err(JournalRefusal::JournalFull);
         }
         self.known.stage(bytes)?;
+        self.found = None;
         match commit(&mut self.disk, &mut self.known) {
             Ok(()) => Ok(()),
             Err(_) => {
@@ -109,11 +117,58 @@ impl<D: Disk> Journal<D> {
         }
     }
 
+    /// Reads again what its own disk holds, as a mount does. What was found is kept beside the known records, which stay:
+    /// it can be looked at, and taken over by `adopt`. After a refusal there is none, and a journal that was spent stays so.
+    pub fn reread(&mut self) -> Result<(), JournalRefusal>
+        ensures answer { MatchResult result (λ _. Reread self.old self.new) (λ r. RemountRefused D.fault_count self.old r self.new) }
+        ensures count { D.fault_count self.old.disk ≤ D.fault_count self.new.disk }
+        ensures calm { OnOk result (D.fault_count self.new.disk ≡ D.fault_count self.old.disk) }
+        ensures honest { D.is_honest self.new.disk ↔ D.is_honest self.old.disk }
+
+        // On an honest disk, by the bytes: these are the known records, or these with the one that was tried.
+        ensures found { D.is_honest self.old.disk → MatchResult result
+            (λ _. IfSome self.new.found (λ records. StandsFor records (bytes_of (D.reads self.old.disk))))
+            (λ r. RefusedBy (bytes_of (D.reads self.old.disk)) r) }
+        ensures kept { D.is_honest self.old.disk → WithOrWithout self.old.records self.old.tried (bytes_of (D.reads self.old.disk)) }
+        ensures file { D.is_honest self.old.disk → OnOk result (bytes_of (D.reads self.new.disk) ≡ mounted (bytes_of (D.reads self.old.disk))) }
+        ensures untouched { D.is_honest self.old.disk → IfErr result (λ r. UnlessFault r (D.reads self.new.disk ≡ D.reads self.old.disk)) }
+        ensures crash { D.is_honest self.old.disk → CrashLeaves D.moment D.left_since
+            (WithOrWithout self.old.records self.old.tried) self.old.disk self.new.disk }
+    {
+        self.found = None;
+        match load(self.alloc, &mut self.disk) {
+            Ok(found) => {
+                self.found = Some(found);
+                Ok(())
+            }
+            Err(refusal) => {
+                if refusal == JournalRefusal::DiskFault {
+                    self.spent = Some(self.disk.faults());
+                }
+                Err(refusal)
+            }
+        }
+    }
+
+    /// Takes over what was found: its records are then the journal's, which isn't spent. Without that it stays as it is.
+    pub fn adopt(&mut self)
+        ensures answer { MatchOption self.old.found (self.new ≡ self.old) (λ records. Adopted self.old records self.new) }
+        // On an honest disk whatever a crash leaves then stands for them.
+        ensures durable { D.is_honest self.old.disk → IfSome self.old.found
+            (λ records. (image : List ℕ) → D.may_leave self.new.disk image → StandsFor records image) }
+    {
+        if let Some(found) = mem::replace(&mut self.found, None) {
+            self.known = found;
+            self.spent = None;
+        }
+    }
+
     /// Mounts again what its own disk holds. After a refusal the records are those known before, and a journal that was
     /// spent stays so.
     pub fn remount(&mut self) -> Result<(), JournalRefusal>
         ensures answer { MatchResult result (λ _. (self.new.spent ≡ None) × (self.new.tried ≡ None))
             (λ r. RemountRefused D.fault_count self.old r self.new) }
+        ensures forgotten { self.new.found ≡ None }
         ensures count { D.fault_count self.old.disk ≤ D.fault_count self.new.disk }
         ensures calm { OnOk result (D.fault_count self.new.disk ≡ D.fault_count self.old.disk) }
         ensures honest { D.is_honest self.new.disk ↔ D.is_honest self.old.disk }
@@ -129,18 +184,26 @@ impl<D: Disk> Journal<D> {
         ensures crash { D.is_honest self.old.disk → CrashLeaves D.moment D.left_since
             (WithOrWithout self.old.records self.old.tried) self.old.disk self.new.disk }
     {
-        match load(self.alloc, &mut self.disk) {
-            Ok(known) => {
-                self.known = known;
-                self.spent = None;
-                Ok(())
-            }
-            Err(refusal) => {
-                if refusal == JournalRefusal::DiskFault {
-                    self.spent = Some(self.disk.faults());
-                }
-                Err(refusal)
-            }
+        self.reread()?;
+        self.adopt();
+        Ok(())
+    }
+
+    /// The records, the oldest first.
+    pub fn records(&self) -> Records<'_>
+        ensures { result ≡ self.now.records }
+    {
+        Records { known: &self.known }
+    }
+
+    /// The records that were found when the file was read again, until the journal takes them over, appends or reads it
+    /// once more.
+    pub fn found(&self) -> Option<Records<'_>>
+        ensures { result ≡ self.now.found }
+    {
+        match &self.found {
+            Some(known) => Some(Records { known }),
+            None => None,
         }
     }
 
@@ -148,7 +211,7 @@ impl<D: Disk> Journal<D> {
     pub fn count(&self) -> usize
         ensures { result ≡ length self.now.records }
     {
-        self.known.gates.len()
+        self.known.count()
     }
 
     /// The record with this number, from 0, the oldest first.
@@ -181,6 +244,7 @@ impl<D: Disk> Journal<D> {
             disk,
             known: _,
             spent: _,
+            found: _,
         } = self;
         disk
     }

@@ -39,6 +39,13 @@ impl Known {
         })
     }
 
+    /// How many records there are.
+    pub(crate) fn count(&self) -> usize
+        ensures { result ≡ length (records_between self.now.bytes.items 8 self.now.gates.items) }
+    {
+        self.gates.len()
+    }
+
     /// The bytes up to and with the last gate.
     pub(crate) fn used(&self) -> u64
         requires { Gated self.now.bytes.items self.now.gates.items self.now.last }

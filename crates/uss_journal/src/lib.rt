@@ -5,6 +5,7 @@ mod journal;
 mod known;
 mod law;
 mod load;
+mod records;
 mod refusal;
 mod scan;
 mod staged;
@@ -13,4 +14,5 @@ mod tests;
 
 pub use journal::{Journal, LIMIT};
 pub use law::written_records_are_found;
+pub use records::Records;
 pub use refusal::{JournalRefusal, MountRefusal};

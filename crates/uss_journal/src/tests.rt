@@ -80,6 +80,39 @@ fn each_call_fails_in_turn(rt: HostRuntime) -> Result<(), Fail> {
     Ok(())
 }
 
+// How many records a journal knows, and how many it found.
+fn counts(journal: &Journal<MemoryDisk>) -> (usize, Option<usize>) {
+    let found = match journal.found() {
+        Some(records) => Some(records.count()),
+        None => None,
+    };
+    (journal.records().count(), found)
+}
+
+#[test]
+fn what_was_found_is_taken_over(rt: HostRuntime) -> Result<(), Fail> {
+    let alloc = rt.alloc();
+    // The last call of the append fails: the record is in the file, and isn't known.
+    let disk = MemoryDisk::with_bytes(alloc, ONE, vec![in alloc; 7]?)?;
+    let mut journal = match Journal::mount(alloc, disk) {
+        Ok(journal) => journal,
+        Err(_) => rt.abort(),
+    };
+    assert_eq!(rt; journal.append(b"new"), Err(JournalRefusal::DiskFault));
+    journal.reread()?;
+    assert_eq!(rt; counts(&journal), (1, Some(2)));
+    assert_eq!(rt; journal.append(b"other"), Err(JournalRefusal::Spent(1)));
+    journal.adopt();
+    assert_eq!(rt; counts(&journal), (2, None));
+    // An append forgets what was found.
+    journal.reread()?;
+    assert_eq!(rt; counts(&journal), (2, Some(2)));
+    journal.append(b"last")?;
+    journal.adopt();
+    assert_eq!(rt; counts(&journal), (3, None));
+    Ok(())
+}
+
 // The file after these calls, of which a last write that is torn has left its first byte alone.
 fn left(alloc: Global, file: &[u8], calls: &[Call], torn: bool) -> Result<Vec<u8>, AllocError> {
     let mut bytes = Vec::from_slice(alloc, file)?;

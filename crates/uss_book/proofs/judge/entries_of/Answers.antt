@@ -6,10 +6,10 @@ use Rattle.uss_book.proofs.Records.{next_record, still_legal}
 use Rattle.uss_book.proofs.judge.entries_of.Goals as goal
 
 pub loop-n-preserved : goal.loop-n-preserved
-loop-n-preserved g c =
+loop-n-preserved c =
     let es = c.loop-n.kept.entries in
     let now = c.judge.new.kept.entries in
     let bytes = c.unwrap-record.result.now in
     let f = subst (λ (b : Bool). IsJudged es bytes now b) c.if-not-branch.false c.in_ok-judge.ensures in
-    let at : slice_get c.args.journal.now.records c.loop-n.n ≡ Some bytes = sym c.item.ensures ∙ ap option_copied c.unwrap-record.ensures in
-    (still_legal es now bytes c.loop-n.invariant.0 f, next_record es now c.args.journal.now.records c.loop-n.n bytes c.loop-n.invariant.1 at f)
+    let at : slice_get c.args.records.now c.loop-n.n ≡ Some bytes = sym c.item.ensures ∙ ap option_copied c.unwrap-record.ensures in
+    (still_legal es now bytes c.loop-n.invariant.0 f, next_record es now c.args.records.now c.loop-n.n bytes c.loop-n.invariant.1 at f)

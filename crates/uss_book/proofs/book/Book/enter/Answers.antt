@@ -11,11 +11,10 @@ use Rattle.uss_book.proofs.book.Book.enter.Goals as goal
 pub append-requires-clause-fits : goal.append-requires-clause-fits
 append-requires-clause-fits g c =
     let old = c.self.inside in
-    let unspent = none_from_not old.spent c.in_default.not-Some in
     let is_entries : old.kept.entries ≡ c.args.self.now.entries = ap (λ (v : BookView g.row.D.Denot). v.entries) c.self.view_is in
     let m = subst (λ (es : List Entry). MayFollow es c.args.e) (sym is_entries) c.requires in
     let coded : c.as_slice.result.now ≡ coding_of c.args.e = c.as_slice.ensures.value ∙ c.in-Ok.ensures.coding in
-    let fits = fits_after old.kept.entries c.args.e old.journal.records c.self.invariant.legal m (c.self.invariant.records unspent) in
+    let fits = fits_after old.kept.entries c.args.e old.journal.records c.self.invariant.legal m c.self.invariant.records in
     omega (arith, fits, ap (length {A = ℕ}) coded)
 
 pub invariant_of-self-in-Done : goal.invariant_of-self-in-Done

@@ -1,4 +1,4 @@
-use Rattle.std.proofs.Common.{◌≡◌, ◌∙◌, ◌+◌, ◌-◌, ◌<◌, ◌≤◌, ◌^◌, ℕ, [], ◌∷◌, ◌++◌, List, length, set, sym, ap, subst, arith, Some}
+use Rattle.std.proofs.Common.{◌≡◌, ◌∙◌, ◌+◌, ◌-◌, ◌<◌, ◌≤◌, ◌^◌, ℕ, [], ◌∷◌, ◌++◌, List, length, set, refl, sym, ap, subst, arith, Some}
 use Rattle.uss_disk.specs.Disk.{bytes_of, CrashLeaves}
 use Rattle.uss_cause.specs.Cause.{Rose}
 use Rattle.uss_journal.specs.declared.known.Known.{Known}
@@ -13,7 +13,7 @@ pub invariant_of-self-in-Ok : goal.invariant_of-self-in-Ok
 invariant_of-self-in-Ok g c =
     let D = g.D.Disk in
     let old = c.self.inside in
-    let inv = c.self.invariant in
+    let inv = c.self.invariant.0 in
     let unspent = none_from_not old.spent c.in_default.not-Some in
     let whole = inv.whole unspent in
     let entry = c.args.bytes.now in
@@ -23,15 +23,17 @@ invariant_of-self-in-Ok g c =
     let still = c.commit.ensures.honest.0 honest in
     settled_appended old.known.bytes.items old.known.gates.items old.known.last inv.gated whole entry small (bytes_of (D.reads old.disk)) (inv.settled still unspent).front
     c.stage.new.self.bytes.items c.stage.new.self.last c.in_ok-stage.ensures.ok c.stage.ensures.last (bytes_of (D.reads c.commit.new.disk)) (D.may_leave c.commit.new.disk)
-    (c.in-Ok.ensures.reading still) (c.in-Ok.ensures.durable still) in
-    sound_appended D.reads D.may_leave D.is_honest c.commit.new.disk old.known.bytes.items old.known.gates.items old.known.last inv.gated whole entry small
-    c.commit.new.known.bytes.items c.commit.new.known.gates.items c.commit.new.known.last old.spent now.is_bytes now.is_gates now.is_last settled_new
+    (c.in-Ok.ensures.reading still) (c.in-Ok.ensures.durable still) in (
+      sound_appended D.reads D.may_leave D.is_honest c.commit.new.disk old.known.bytes.items old.known.gates.items old.known.last inv.gated whole entry small
+          c.commit.new.known.bytes.items c.commit.new.known.gates.items c.commit.new.known.last old.spent now.is_bytes now.is_gates now.is_last settled_new,
+      tt,
+    )
 
 pub returns-in-Ok-clause-crash : goal.returns-in-Ok-clause-crash
 returns-in-Ok-clause-crash g c = λ honest none.
     let D = g.D.Disk in
     let old = c.self.inside in
-    let inv = c.self.invariant in
+    let inv = c.self.invariant.0 in
     let unspent = none_from_not old.spent c.in_default.not-Some in
     let whole = inv.whole unspent in
     let entry = c.args.bytes.now in
@@ -50,7 +52,7 @@ pub returns-in-Err-clause-crash : goal.returns-in-Err-clause-crash
 returns-in-Err-clause-crash g c = λ honest none.
     let D = g.D.Disk in
     let old = c.self.inside in
-    let inv = c.self.invariant in
+    let inv = c.self.invariant.0 in
     let unspent = none_from_not old.spent c.in_default.not-Some in
     let whole = inv.whole unspent in
     let entry = c.args.bytes.now in
@@ -69,7 +71,7 @@ pub returns-in-Ok-clause-answer : goal.returns-in-Ok-clause-answer
 returns-in-Ok-clause-answer g c =
     let D = g.D.Disk in
     let old = c.self.inside in
-    let inv = c.self.invariant in
+    let inv = c.self.invariant.0 in
     let unspent = none_from_not old.spent c.in_default.not-Some in
     let whole = inv.whole unspent in
     let entry = c.args.bytes.now in
@@ -87,13 +89,14 @@ returns-in-Ok-clause-answer g c =
       last = both.0 ∙ ap (λ (rs : List (List ℕ)). rs ++ entry ∷ []) is_records;
       reopened = unspent;
       settled = both.1;
+      forgotten = refl;
     }
 
 pub returns-in-Ok-clause-durable : goal.returns-in-Ok-clause-durable
 returns-in-Ok-clause-durable g c = λ honest image may.
     let D = g.D.Disk in
     let old = c.self.inside in
-    let inv = c.self.invariant in
+    let inv = c.self.invariant.0 in
     let unspent = none_from_not old.spent c.in_default.not-Some in
     let whole = inv.whole unspent in
     let entry = c.args.bytes.now in
@@ -113,7 +116,7 @@ pub returns-in-Err-clause-answer : goal.returns-in-Err-clause-answer
 returns-in-Err-clause-answer g c =
     let D = g.D.Disk in
     let old = c.self.inside in
-    let inv = c.self.invariant in
+    let inv = c.self.invariant.0 in
     let unspent = none_from_not old.spent c.in_default.not-Some in
     let whole = inv.whole unspent in
     let entry = c.args.bytes.now in
@@ -135,13 +138,14 @@ returns-in-Err-clause-answer g c =
       records = both.0 ∙ is_records;
       spent = ap (λ (n : ℕ). Some n) c.faults.ensures;
       tried = both.1;
+      forgotten = refl;
     }
 
 pub invariant_of-self-in-Err : goal.invariant_of-self-in-Err
 invariant_of-self-in-Err g c =
     let D = g.D.Disk in
     let old = c.self.inside in
-    let inv = c.self.invariant in
+    let inv = c.self.invariant.0 in
     let unspent = none_from_not old.spent c.in_default.not-Some in
     let whole = inv.whole unspent in
     let entry = c.args.bytes.now in
@@ -149,21 +153,23 @@ invariant_of-self-in-Err g c =
     let err = c.in-Err.ensures.err in
     let is_bytes = ap (λ (k : Known). k.bytes.items) err ∙ c.in_ok-stage.ensures.ok in
     let is_gates = ap (λ (k : Known). k.gates.items) err ∙ c.stage.ensures.gates in
-    let is_last = ap (λ (k : Known). k.last) err ∙ c.stage.ensures.last in
-    sound_tried D.reads D.may_leave D.is_honest c.commit.new.disk old.known.bytes.items old.known.gates.items old.known.last inv.gated whole entry small
-    c.commit.new.known.bytes.items c.commit.new.known.gates.items c.commit.new.known.last c.faults.result is_bytes is_gates is_last
-    (λ honest image may.
-    let still = c.commit.ensures.honest.0 honest in
-    let settled = inv.settled still unspent in
-    let leaves = crash_appended D.moment D.left_since old.disk c.commit.new.disk old.known.bytes.items old.known.gates.items old.known.last inv.gated whole entry small
-    (bytes_of (D.reads old.disk)) settled.front c.stage.new.self.bytes.items c.stage.new.self.last c.in_ok-stage.ensures.ok c.stage.ensures.last (c.commit.ensures.crash still settled.durable) in
-    leaves.each image (g.met.D.Disk.counts_now c.commit.new.disk (D.moment old.disk) image honest leaves.later may))
+    let is_last = ap (λ (k : Known). k.last) err ∙ c.stage.ensures.last in (
+      sound_tried D.reads D.may_leave D.is_honest c.commit.new.disk old.known.bytes.items old.known.gates.items old.known.last inv.gated whole entry small
+          c.commit.new.known.bytes.items c.commit.new.known.gates.items c.commit.new.known.last c.faults.result is_bytes is_gates is_last
+          (λ honest image may.
+          let still = c.commit.ensures.honest.0 honest in
+          let settled = inv.settled still unspent in
+          let leaves = crash_appended D.moment D.left_since old.disk c.commit.new.disk old.known.bytes.items old.known.gates.items old.known.last inv.gated whole entry small
+          (bytes_of (D.reads old.disk)) settled.front c.stage.new.self.bytes.items c.stage.new.self.last c.in_ok-stage.ensures.ok c.stage.ensures.last (c.commit.ensures.crash still settled.durable) in
+          leaves.each image (g.met.D.Disk.counts_now c.commit.new.disk (D.moment old.disk) image honest leaves.later may)),
+      tt,
+    )
 
 pub returns-in-Ok-clause-file : goal.returns-in-Ok-clause-file
 returns-in-Ok-clause-file g c = λ honest.
     let D = g.D.Disk in
     let old = c.self.inside in
-    let inv = c.self.invariant in
+    let inv = c.self.invariant.0 in
     let unspent = none_from_not old.spent c.in_default.not-Some in
     let whole = inv.whole unspent in
     let entry = c.args.bytes.now in
