@@ -16,7 +16,6 @@ use Rattle.uss_coding.specs.Coding.{coding_of}
 use Rattle.uss_book.specs.Append.{Came, IsRefusalThatFits, outcome_of}
 use Rattle.uss_book.specs.Book.{BookWithOrWithout, records_of}
 use Rattle.uss_book.specs.Whole.{IsWhole}
-use Rattle.uss_book.proofs.Lengths.{used_is}
 
 pub refusal_fits : {D : Type 0} (fault_count : D → ℕ) (old : JournalView D) (bytes : List ℕ) (r : JournalRefusal) (new : JournalView D) → AppendRefused fault_count old bytes r new → old.spent ≡ None
     → used_of old.records + 5 + length bytes ≤ limit → IsRefusalThatFits r
@@ -56,35 +55,31 @@ pub enter_crash : {D : Type 0} (moment : D → ℕ) (left_since : D → ℕ → 
 enter_crash moment left_since old new es e records bytes is coded leaves =
     crash_weaker moment left_since old new (WithOrWithout records (Some bytes)) (BookWithOrWithout es (Some e)) (λ image p. with_book es e records bytes image is coded p) leaves
 
-module _ {D : Type 0} (may_leave : D → List ℕ → Type 0) (is_honest : D → Type 0) (old new : JournalView D) (es : List Entry) (e : Entry) (spent : Option ℕ) (tried : Option Entry) (used : ℕ)
-    (whole : IsWhole may_leave is_honest old es spent tried used) (unspent : spent ≡ None) (bytes : List ℕ) (coded : bytes ≡ coding_of e) (m : MayFollow es e) where
-  pub entered_whole : (fault_count : D → ℕ) (now : List Entry) (used' : ℕ) → Appended old bytes new → now ≡ es ++ e ∷ [] → used' ≡ used_of new.records
+module _ {D : Type 0} (may_leave : D → List ℕ → Type 0) (is_honest : D → Type 0) (old new : JournalView D) (es : List Entry) (e : Entry) (tried : Option Entry)
+    (whole : IsWhole may_leave is_honest old es tried) (unspent : old.spent ≡ None) (bytes : List ℕ) (coded : bytes ≡ coding_of e) (m : MayFollow es e) where
+  pub entered_whole : (now : List Entry) → Appended old bytes new → now ≡ es ++ e ∷ []
       → (is_honest new.disk → (image : List ℕ) → may_leave new.disk image → StandsFor new.records image)
-      → IsWhole may_leave is_honest new now spent tried used'
-  entered_whole fault_count now used' done last is_used durable =
+      → IsWhole may_leave is_honest new now tried
+  entered_whole now done last durable =
       let records : new.records ≡ records_of now = done.last ∙ records_after es e old.records bytes whole.records coded ∙ ap records_of (sym last) in
       record {
         legal = subst IsLegal (sym last) (legal_longer [] es e whole.legal m);
-        used_is = is_used ∙ ap used_of records ∙ used_is now;
-        unspent = λ none. done.reopened;
         records = records;
-        untried = whole.untried;
+        untried = λ none. whole.untried unspent;
         follows = subst (λ (t : Option Entry). IfSome t (MayFollow now)) (sym (whole.untried unspent)) tt;
         left = λ honest image may. inl (durable honest image may ∙ ap (λ (rs : List (List ℕ)). Ok rs) records);
         agrees = λ honest image p. as_read now new.records new.tried tried image records done.settled p;
       }
 
-  pub faulted_whole : (fault_count : D → ℕ) (now : List Entry) (count : ℕ) → AppendFaulted fault_count old bytes new → now ≡ es
+  pub faulted_whole : (fault_count : D → ℕ) (now : List Entry) → AppendFaulted fault_count old bytes new → now ≡ es
       → (is_honest new.disk → (image : List ℕ) → may_leave new.disk image → WithOrWithout old.records (Some bytes) image)
-      → IsWhole may_leave is_honest new now (Some count) (Some e) used
-  faulted_whole fault_count now count fault same left =
-      subst (λ (l : List Entry). IsWhole may_leave is_honest new l (Some count) (Some e) used) (sym same)
+      → IsWhole may_leave is_honest new now (Some e)
+  faulted_whole fault_count now fault same left =
+      subst (λ (l : List Entry). IsWhole may_leave is_honest new l (Some e)) (sym same)
       (record {
         legal = whole.legal;
-        used_is = whole.used_is;
-        unspent = λ none. absurd (cc);
         records = fault.records ∙ whole.records;
-        untried = λ none. absurd (cc);
+        untried = λ none. let e = sym fault.spent ∙ none in absurd (cc);
         follows = m;
         left = λ honest image may. with_book es e old.records bytes image whole.records coded (left honest image may);
         agrees = λ honest image p. with_book es e old.records bytes image whole.records coded

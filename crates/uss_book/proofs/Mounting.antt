@@ -1,17 +1,16 @@
 -- A book whose journal was mounted again.
 use Rattle.std.proofs.Common.{ℕ, List, [], ◌∷◌, ◌++◌, ◌≡◌, inl, inr, refl, sym, ap, subst, ◌∙◌, append-nil, Option, Some, None, IfSome, Result, Ok, Err}
 use Rattle.uss_event.specs.declared.entries.Entry.{Entry}
-use Rattle.uss_journal.specs.Format.{stands_for, used_of}
+use Rattle.uss_journal.specs.Format.{stands_for}
 use Rattle.uss_journal.specs.Journal.{JournalView, StandsFor, WithOrWithout}
 use Rattle.uss_law_book.specs.Legal.{MayFollow, IsLegal}
 use Rattle.uss_law_book.proofs.EachOrderly.{legal_longer}
 use Rattle.uss_book.specs.Book.{StandsForBook, BookWithOrWithout, records_of}
 use Rattle.uss_book.specs.Whole.{IsWhole}
 use Rattle.uss_book.specs.Refusal.{SaysNothing, IsLeft, UnlessFault}
-use Rattle.uss_book.specs.Reread.{IsByRecords, IsByFound, IsOfReading, IsReadable, IsUnread, IsTaken, StaysKnown, after_refusal}
+use Rattle.uss_book.specs.Reread.{IsByRecords, IsByFound, IsOfReading, NoPlace, IsUnread, IsTaken, StaysKnown}
 use Rattle.uss_book.specs.declared.refusal.BookFault.{BookFault}
 use Rattle.uss_book.specs.declared.refusal.BookFault.TheVariants.{DiskFault, NotAJournal, Spent, BadEntry, OtherOwner, Changed, Memory}
-use Rattle.uss_book.proofs.Lengths.{used_is}
 use Rattle.uss_book.proofs.Entering.{as_read}
 use Rattle.uss_book.proofs.Rereading.{read_on}
 
@@ -28,18 +27,16 @@ read_records (Err place) = []
 one_reading : (a b : List (List ℕ)) (r : Result (List (List ℕ)) ℕ) → r ≡ Ok a → r ≡ Ok b → a ≡ b
 one_reading a b r e f = ap read_records (sym e ∙ f)
 
-module _ {D : Type 0} (may_leave : D → List ℕ → Type 0) (is_honest : D → Type 0) (old new : JournalView D) (es : List Entry) (spent : Option ℕ) (tried : Option Entry) (used : ℕ)
-    (whole : IsWhole may_leave is_honest old es spent tried used) (still : is_honest new.disk → is_honest old.disk) where
-  same_journal : (spent' : Option ℕ) → new.records ≡ old.records → new.tried ≡ old.tried → (spent' ≡ None → (spent ≡ None) × (new.spent ≡ None))
+module _ {D : Type 0} (may_leave : D → List ℕ → Type 0) (is_honest : D → Type 0) (old new : JournalView D) (es : List Entry) (tried : Option Entry)
+    (whole : IsWhole may_leave is_honest old es tried) (still : is_honest new.disk → is_honest old.disk) where
+  same_journal : new.records ≡ old.records → new.tried ≡ old.tried → (new.spent ≡ None → old.spent ≡ None)
       → (is_honest new.disk → (image : List ℕ) → may_leave new.disk image → WithOrWithout old.records old.tried image)
-      → IsWhole may_leave is_honest new es spent' tried used
-  same_journal spent' records same_tried reopened left =
+      → IsWhole may_leave is_honest new es tried
+  same_journal records same_tried unspent left =
       record {
         legal = whole.legal;
-        used_is = whole.used_is;
-        unspent = λ none. (reopened none).1;
         records = records ∙ whole.records;
-        untried = λ none. whole.untried (reopened none).0;
+        untried = λ none. whole.untried (unspent none);
         follows = whole.follows;
         left = λ honest image may. whole.agrees (still honest) image (left honest image may);
         agrees = λ honest image p. whole.agrees (still honest) image
@@ -47,26 +44,22 @@ module _ {D : Type 0} (may_leave : D → List ℕ → Type 0) (is_honest : D →
       }
 
   -- the book wasn't mounted again
-  pub refused_whole : (fault_count : D → ℕ) (fault : BookFault) (faults : ℕ) → StaysKnown fault_count old fault new
+  pub refused_whole : (fault_count : D → ℕ) (fault : BookFault) → StaysKnown fault_count old fault new
       → (is_honest new.disk → (image : List ℕ) → may_leave new.disk image → WithOrWithout old.records old.tried image)
-      → IsWhole may_leave is_honest new es (after_refusal fault spent faults) tried used
-  refused_whole fault_count DiskFault faults h left = same_journal (Some faults) h.records h.tried (λ none. absurd (cc)) left
-  refused_whole fault_count (NotAJournal place) faults h left = same_journal spent h.records h.tried (λ none. (none, h.spent ∙ whole.unspent none)) left
-  refused_whole fault_count Memory faults h left = same_journal spent h.records h.tried (λ none. (none, h.spent ∙ whole.unspent none)) left
-  refused_whole fault_count (BadEntry n) faults h left = same_journal spent h.records h.tried (λ none. (none, h.spent ∙ whole.unspent none)) left
-  refused_whole fault_count (OtherOwner kept) faults h left = same_journal spent h.records h.tried (λ none. (none, h.spent ∙ whole.unspent none)) left
-  refused_whole fault_count (Changed n) faults h left = same_journal spent h.records h.tried (λ none. (none, h.spent ∙ whole.unspent none)) left
-  refused_whole fault_count (Spent count) faults h left = absurd h
+      → IsWhole may_leave is_honest new es tried
+  refused_whole fault_count DiskFault h left = same_journal h.records h.tried (λ none. let e = sym h.spent ∙ none in absurd (cc)) left
+  refused_whole fault_count (NotAJournal place) h left = same_journal h.records h.tried (λ none. sym h.spent ∙ none) left
+  refused_whole fault_count Memory h left = same_journal h.records h.tried (λ none. sym h.spent ∙ none) left
+  refused_whole fault_count (BadEntry n) h left = same_journal h.records h.tried (λ none. sym h.spent ∙ none) left
+  refused_whole fault_count (OtherOwner kept) h left = same_journal h.records h.tried (λ none. sym h.spent ∙ none) left
+  refused_whole fault_count (Changed n) h left = same_journal h.records h.tried (λ none. sym h.spent ∙ none) left
+  refused_whole fault_count (Spent count) h left = absurd h
 
   -- it was mounted again
-  pub reread_whole : (kept : List Entry) (used' : ℕ) → IsLegal kept → IsTaken kept new → used' ≡ used_of new.records
-      → (is_honest new.disk → (image : List ℕ) → may_leave new.disk image → StandsForBook kept image)
-      → IsWhole may_leave is_honest new kept None None used'
-  reread_whole kept used' legal taken is_used durable =
+  pub reread_whole : (kept : List Entry) → IsLegal kept → IsTaken kept new → (is_honest new.disk → (image : List ℕ) → may_leave new.disk image → StandsForBook kept image) → IsWhole may_leave is_honest new kept None
+  reread_whole kept legal taken durable =
       record {
         legal = legal;
-        used_is = is_used ∙ ap used_of taken.records ∙ used_is kept;
-        unspent = λ none. taken.reopened;
         records = taken.records;
         untried = λ none. refl;
         follows = tt;
@@ -94,7 +87,7 @@ module _ {D : Type 0} (may_leave : D → List ℕ → Type 0) (is_honest : D →
   by_found file (Some records) fault honest stands kept by reading found = for_memory file records fault honest stands kept by reading
 
   -- on an honest disk a book is refused by a fault or for want of memory alone
-  pub says_nothing : (fault_count : D → ℕ) (file : List ℕ) (found : Option (List (List ℕ))) (fault : BookFault) → is_honest old.disk → StaysKnown fault_count old fault new → IsReadable fault
+  pub says_nothing : (fault_count : D → ℕ) (file : List ℕ) (found : Option (List (List ℕ))) (fault : BookFault) → is_honest old.disk → StaysKnown fault_count old fault new → NoPlace fault
       → IfSome found (λ records. StandsFor records file) → WithOrWithout old.records old.tried file → IsByFound es found fault → SaysNothing fault
   says_nothing fault_count file found DiskFault honest stays readable stands kept by = tt
   says_nothing fault_count file found Memory honest stays readable stands kept by = tt

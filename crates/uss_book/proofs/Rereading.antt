@@ -16,7 +16,7 @@ use Rattle.uss_law_book.proofs.EachOrderly.{legal_rest, legal_beginning}
 use Rattle.uss_coding.specs.Coding.{coding_of}
 use Rattle.uss_coding.specs.Laws.{one_coding}
 use Rattle.uss_book.specs.Book.{records_of, IsBadEntry}
-use Rattle.uss_book.specs.Reread.{BeginsWith, IsOther, AreAnothers, IsByRecords, IsOfReading}
+use Rattle.uss_book.specs.Reread.{BeginsWith, IsOther, IsFirstChange, IsReadDifferently, AreAnothers, IsByRecords, IsOfReading}
 use Rattle.uss_book.specs.Refusal.{SaysNothing}
 use Rattle.uss_book.specs.declared.refusal.BookFault.{BookFault}
 use Rattle.uss_book.specs.declared.refusal.BookFault.TheVariants.{DiskFault, NotAJournal, Spent, BadEntry, OtherOwner, Changed, Memory}
@@ -83,20 +83,29 @@ read_on known more DiskFault legal h r = absurd r
 read_on known more (NotAJournal place) legal h r = absurd r
 read_on known more (Spent count) legal h r = absurd r
 
--- one more record that is the known entry's
-pub take_step : (records : List (List ℕ)) (known : List Entry) (n : ℕ) (e : Entry) → n < length known → e ≡ get_or known n e → slice_get records n ≡ Some (coding_of e)
-    → take n records ≡ take n (records_of known) → take (n + 1) records ≡ take (n + 1) (records_of known)
-take_step records known n e low is at front =
-    let low' : n < length (records_of known) = omega (arith, low, length-map known coding_of) in
-    take_more records n (coding_of e) (slice_get_within records n (coding_of e) at)
-    ∙ ap (λ (r : List ℕ). take n records ++ r ∷ []) (get_or_from_slice_get records n (coding_of e) (coding_of e) at ∙ ap coding_of is ∙ sym (get_or-map coding_of known n e (coding_of e) low))
-    ∙ ap (λ (rs : List (List ℕ)). rs ++ get_or (records_of known) n (coding_of e) ∷ []) front
-    ∙ sym (take_more (records_of known) n (coding_of e) low')
+-- one more record that is the known one
+pub take_step : (found known : List (List ℕ)) (n : ℕ) (r : List ℕ) → slice_get found n ≡ Some r → slice_get known n ≡ Some r → take n found ≡ take n known → take (n + 1) found ≡ take (n + 1) known
+take_step found known n r there is front =
+    take_more found n r (slice_get_within found n r there)
+    ∙ ap (λ (x : List ℕ). take n found ++ x ∷ []) (get_or_from_slice_get found n r r there ∙ sym (get_or_from_slice_get known n r r is))
+    ∙ ap (λ (rs : List (List ℕ)). rs ++ get_or known n r ∷ []) front
+    ∙ sym (take_more known n r (slice_get_within known n r is))
 
-pub all_taken : (records : List (List ℕ)) (known : List Entry) (n : ℕ) → length known ≤ n → take n records ≡ take n (records_of known) → BeginsWith records (records_of known)
-all_taken records known n high front =
-    let high' : length (records_of known) ≤ n = omega (arith, high, length-map known coding_of) in
-    record { more = drop n records; is = sym (take-append-drop n records) ∙ ap (λ (l : List (List ℕ)). l ++ drop n records) (front ∙ take_all n (records_of known) high') }
+pub all_taken : (found known : List (List ℕ)) (n : ℕ) → length known ≤ n → take n found ≡ take n known → BeginsWith found known
+all_taken found known n high front = record { more = drop n found; is = sym (take-append-drop n found) ∙ ap (λ (l : List (List ℕ)). l ++ drop n found) (front ∙ take_all n known high) }
+
+-- the first change of the records is that of the entries
+pub read_differently : (es kept : List Entry) (found known : List (List ℕ)) (n : ℕ) → known ≡ records_of es → IsLegal kept → records_of kept ≡ found → (AreAnothers kept es → ⊥) → IsFirstChange known found n
+    → IsReadDifferently es n found
+read_differently es kept found known n is legal same own change =
+    let first : IsFirstChange (records_of es) found n = subst (λ (rs : List (List ℕ)). IsFirstChange rs found n) is change in
+    record {
+      entries = kept;
+      legal = legal;
+      found = same;
+      own = own;
+      changed = record { within = omega (arith, first.within, length-map es coding_of); front = first.front; changed = first.changed };
+    }
 
 pub other_owner : (known kept : List Entry) (records : List (List ℕ)) (o : Owner) → AreAnothers kept known → IsLegal kept → records_of kept ≡ records → owner_of kept ≡ Some o → IsOther known o records
 other_owner known kept records o h k found is =

@@ -61,15 +61,25 @@ Misread records (Spent count) = ⊥
 Misread records (OtherOwner kept) = ⊥
 Misread records (Changed n) = ⊥
 
--- each refusal of a mount, by the disk's count of faults before and after it; those of 143, 151 and 152 are the bytes
-abbrev pub MountRefused : (before after : ℕ) (fault : BookFault) → Type 0
-MountRefused before after DiskFault = Rose before after
-MountRefused before after (NotAJournal place) = Unit {0}
-MountRefused before after (Spent count) = ⊥
-MountRefused before after (BadEntry n) = Unit {0}
-MountRefused before after (OtherOwner kept) = Unit {0}
-MountRefused before after (Changed n) = ⊥
-MountRefused before after Memory = Unit {0}
+-- each refusal of a view, by the disk's count of faults before and after it; those of 143 and 151 are the bytes
+abbrev pub ViewRefused : (before after : ℕ) (fault : BookFault) → Type 0
+ViewRefused before after DiskFault = Rose before after
+ViewRefused before after (NotAJournal place) = Unit {0}
+ViewRefused before after (BadEntry n) = Unit {0}
+ViewRefused before after Memory = Unit {0}
+ViewRefused before after (Spent count) = ⊥
+ViewRefused before after (OtherOwner kept) = ⊥
+ViewRefused before after (Changed n) = ⊥
+
+-- each refusal of a mount: those of a view, and that the book is another owner's
+abbrev pub MountRefused : (owner : Owner) (before after : ℕ) (fault : BookFault) → Type 0
+MountRefused owner before after DiskFault = Rose before after
+MountRefused owner before after (NotAJournal place) = Unit {0}
+MountRefused owner before after (BadEntry n) = Unit {0}
+MountRefused owner before after Memory = Unit {0}
+MountRefused owner before after (Spent count) = ⊥
+MountRefused owner before after (OtherOwner kept) = kept ≡ owner → ⊥
+MountRefused owner before after (Changed n) = ⊥
 
 -- the file stands for records of which this holds
 pub record StandsForSome (file : List ℕ) (P : List (List ℕ) → Type 0) : Type 0 where

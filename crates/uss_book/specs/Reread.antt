@@ -1,5 +1,5 @@
 -- What comes of reading a book again. This project's own.
-use Rattle.std.specs.Prelude.{◌≡◌, ℕ, List, ◌++◌, Option, Some, None}
+use Rattle.std.specs.Prelude.{◌≡◌, ◌<◌, take, length, slice_get, ℕ, List, ◌++◌, Option, Some, None}
 use Rattle.uss_cause.specs.Cause.{Rose}
 use Rattle.uss_event.specs.declared.entries.Owner.{Owner}
 use Rattle.uss_event.specs.declared.entries.Entry.{Entry}
@@ -15,6 +15,12 @@ use Rattle.uss_book.specs.Book.{BookView, IsBadEntry, IsOtherOwner, IsChanged, r
 pub record BeginsWith {X : Type 0} (list front : List X) : Type 0 where
   pub more : List X
   pub is : list ≡ front ++ more
+
+-- the record with number n is the first that wasn't found as it is known, or isn't there
+pub record IsFirstChange (known found : List (List ℕ)) (n : ℕ) : Type 0 where
+  pub within : n < length known
+  pub front : take n found ≡ take n known
+  pub changed : slice_get found n ≡ slice_get known n → ⊥
 
 -- the records are those of a legal book, and of another owner than the known entries
 pub record IsOther (known : List Entry) (kept : Owner) (records : List (List ℕ)) : Type 0 where
@@ -61,14 +67,14 @@ IsOfReading (NotAJournal place) = ⊥
 IsOfReading (Spent count) = ⊥
 
 -- the refusal isn't 143
-abbrev pub IsReadable : BookFault → Type 0
-IsReadable (NotAJournal place) = ⊥
-IsReadable (BadEntry n) = Unit {0}
-IsReadable (OtherOwner kept) = Unit {0}
-IsReadable (Changed n) = Unit {0}
-IsReadable Memory = Unit {0}
-IsReadable DiskFault = Unit {0}
-IsReadable (Spent count) = Unit {0}
+abbrev pub NoPlace : BookFault → Type 0
+NoPlace (NotAJournal place) = ⊥
+NoPlace (BadEntry n) = Unit {0}
+NoPlace (OtherOwner kept) = Unit {0}
+NoPlace (Changed n) = Unit {0}
+NoPlace Memory = Unit {0}
+NoPlace DiskFault = Unit {0}
+NoPlace (Spent count) = Unit {0}
 
 -- no records need have been found for it: 141, 143 or want of memory
 abbrev pub IsUnread : BookFault → Type 0
@@ -107,16 +113,6 @@ StaysKnown fault_count old (BadEntry n) new = IsKnown old new
 StaysKnown fault_count old (OtherOwner kept) new = IsKnown old new
 StaysKnown fault_count old (Changed n) new = IsKnown old new
 StaysKnown fault_count old (Spent count) new = ⊥
-
--- by which count a book is spent after a refusal to be mounted again
-abbrev pub after_refusal : BookFault → Option ℕ → ℕ → Option ℕ
-after_refusal DiskFault spent faults = Some faults
-after_refusal Memory spent faults = spent
-after_refusal (NotAJournal place) spent faults = spent
-after_refusal (Spent count) spent faults = spent
-after_refusal (BadEntry n) spent faults = spent
-after_refusal (OtherOwner kept) spent faults = spent
-after_refusal (Changed n) spent faults = spent
 
 -- a book that was mounted again: it goes on from the entries that were known, and what was found are its records
 pub record Remounted {D : Type 0} (old new : BookView D) : Type 0 where

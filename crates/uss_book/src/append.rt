@@ -16,16 +16,16 @@ use uss_event::Entry;
 use uss_journal::{Journal, JournalRefusal};
 
 /// What comes of an append of a record that fits.
-pub(crate) enum Outcome {
+pub(crate) enum AppendOutcome {
     Done,
     /// The disk answered a fault.
     Faulted,
     /// Memory is wanting.
-    Unroomy,
+    NoMemory,
 }
 
 /// Appends a record that fits to a journal that isn't spent.
-pub(crate) fn append<D: Disk>(journal: &mut Journal<D>, bytes: &[u8]) -> Outcome
+pub(crate) fn append<D: Disk>(journal: &mut Journal<D>, bytes: &[u8]) -> AppendOutcome
     requires unspent { journal.old.spent ≡ None }
     requires fits { used_of journal.old.records + 5 + length bytes.now ≤ limit }
     ensures answer { Came D.fault_count journal.old bytes.now result journal.new }
@@ -37,19 +37,19 @@ pub(crate) fn append<D: Disk>(journal: &mut Journal<D>, bytes: &[u8]) -> Outcome
     ensures durable { D.is_honest journal.old.disk → OnDone result ((image : List ℕ) → D.may_leave journal.new.disk image → StandsFor journal.new.records image) }
 {
     match journal.append(bytes) {
-        Ok(()) => Outcome::Done,
+        Ok(()) => AppendOutcome::Done,
         Err(refusal) => refused(refusal),
     }
 }
 
 /// What comes of it where the journal answers this.
-fn refused(refusal: JournalRefusal) -> Outcome
+fn refused(refusal: JournalRefusal) -> AppendOutcome
     requires { IsRefusalThatFits refusal }
     ensures { result ≡ outcome_of refusal }
 {
     match refusal {
-        JournalRefusal::DiskFault => Outcome::Faulted,
-        JournalRefusal::Memory => Outcome::Unroomy,
+        JournalRefusal::DiskFault => AppendOutcome::Faulted,
+        JournalRefusal::Memory => AppendOutcome::NoMemory,
         JournalRefusal::JournalFull | JournalRefusal::NotAJournal(_) | JournalRefusal::Spent(_) => {
             unreachable!()
         }

@@ -13,14 +13,14 @@ ghost use Rattle.uss_law_book.specs.Legal.{MayFollow, IsLegal};
 ghost use Rattle.uss_law_book.specs.Reserve.{need};
 ghost use Rattle.uss_legal.specs.Speaks.{trial_in};
 ghost use Rattle.uss_book.specs.Book.{StandsForBook, BookWithOrWithout, IsFound, MountLeaves, new_book, records_of};
-ghost use Rattle.uss_book.specs.Refusal.{Entered, EnterRefused, MountRefused, RefusedBy, SaysNothing, IsAnothers, IsLeft, UnlessFault, disk_after};
+ghost use Rattle.uss_book.specs.Refusal.{Entered, EnterRefused, MountRefused, ViewRefused, RefusedBy, SaysNothing, IsAnothers, IsLeft, UnlessFault, disk_after};
 ghost use Rattle.uss_book.specs.Reread.{Remounted, RemountRefused, IsByFound};
 
-use crate::append::{Outcome, append, discard, keep_tried, prepare};
+use crate::append::{AppendOutcome, append, discard, keep_tried, prepare};
 use crate::load::load;
 use crate::owner::{into_owner, is_of};
 use crate::readers::{job_of, request_of};
-use crate::reread::{after_refusal, forget, reread};
+use crate::reread::{forget, reread};
 use crate::start::start;
 use crate::{BookFault, BookRefusal};
 use std::alloc::Global;
@@ -38,12 +38,8 @@ pub struct Book<D: Disk> {
     alloc: Global,
     journal: Journal<D>,
     pub(crate) kept: Entries,
-    // Where the book is spent: by which count of faults.
-    spent: Option<u64>,
-    // The entry that was tried when the book was spent, if one was.
+    // The entry that was tried when the journal was spent, if one was.
     tried: Option<Entry>,
-    // The bytes of a journal of the entries.
-    used: u64,
 }
 
 impl<D: Disk> Model for Book<D> {
@@ -52,9 +48,9 @@ impl<D: Disk> Model for Book<D> {
 
     ghost Value = { BookView D };
 
-    ghost view = { λ b. record { disk = b.journal.disk; entries = b.kept.entries; spent = b.spent; tried = b.tried; found = b.journal.found } };
+    ghost view = { λ b. record { disk = b.journal.disk; entries = b.kept.entries; spent = b.journal.spent; tried = b.tried; found = b.journal.found } };
 
-    ghost invariant = { λ b. IsWhole D.may_leave D.is_honest b.journal b.kept.entries b.spent b.tried b.used };
+    ghost invariant = { λ b. IsWhole D.may_leave D.is_honest b.journal b.kept.entries b.tried };
 }
 
 /// The book of entries that were read.
@@ -69,14 +65,11 @@ fn made<D: Disk>(alloc: Global, journal: Journal<D>, kept: Entries) -> Book<D>
     ensures spent { result.spent ≡ None }
     ensures tried { result.tried ≡ None }
 {
-    let used = journal.used();
     Book {
         alloc,
         journal,
         kept,
-        spent: None,
         tried: None,
-        used,
     }
 }
 
@@ -99,7 +92,7 @@ fn owned<D: Disk>(
     ensures another { IfErr result (λ r. IsAnothers kept.entries owner.now r.refusal) }
     ensures disk { disk_after result ≡ journal.disk }
 {
-    if is_of(kept.as_slice(), owner) {
+    if is_of(&kept, owner) {
         Ok(made(alloc, journal, kept))
     } else {
         Err(BookRefusal {
@@ -120,7 +113,7 @@ fn begun<D: Disk>(
     requires empty { kept.entries ≡ [] }
     requires unwritten { journal.records ≡ [] }
     requires unspent { journal.spent ≡ None }
-    ensures refused { IfErr result (λ r. MountRefused (D.fault_count journal.disk) (D.fault_count r.back) r.refusal) }
+    ensures refused { IfErr result (λ r. ViewRefused (D.fault_count journal.disk) (D.fault_count r.back) r.refusal) }
     ensures free { IfErr result (λ r. SaysNothing r.refusal) }
     ensures untouched { IfErr result (λ r. UnlessFault r.refusal (r.back ≡ journal.disk)) }
     ensures entries { IfOk result (λ b. b.entries ≡ new_book owner) }
@@ -149,7 +142,7 @@ impl<D: Disk> Book<D> {
     /// bytes. A refusal hands the disk back.
     pub fn mount(alloc: Global, disk: D, owner: Owner) -> Result<Book<D>, BookRefusal<D>>
         requires { length owner.base ≤ 256 }
-        ensures refused { IfErr result (λ r. MountRefused (D.fault_count disk) (D.fault_count r.back) r.refusal) }
+        ensures refused { IfErr result (λ r. MountRefused owner (D.fault_count disk) (D.fault_count r.back) r.refusal) }
         ensures unspent { IfOk result (λ b. (b.spent ≡ None) × (b.tried ≡ None)) }
         ensures legal { IfOk result (λ b. IsLegal b.entries) }
         ensures owner { IfOk result (λ b. owner_of b.entries ≡ Some owner) }
@@ -197,7 +190,7 @@ impl<D: Disk> Book<D> {
             (BookWithOrWithout self.old.entries (Some e)) self.old.disk self.new.disk }
         ensures durable { D.is_honest self.old.disk → OnOk result ((image : List ℕ) → D.may_leave self.new.disk image → StandsForBook self.new.entries image) }
     {
-        if let Some(count) = self.spent {
+        if let Some(count) = self.journal.spent() {
             discard(e);
             return Err(BookFault::Spent(count));
         }
@@ -209,17 +202,15 @@ impl<D: Disk> Book<D> {
             }
         };
         match append(&mut self.journal, bytes.as_slice()) {
-            Outcome::Done => {
-                self.used = self.journal.used();
+            AppendOutcome::Done => {
                 self.kept.enter(e);
                 Ok(())
             }
-            Outcome::Faulted => {
-                self.spent = Some(self.journal.faults());
+            AppendOutcome::Faulted => {
                 keep_tried(&mut self.tried, e);
                 Err(BookFault::DiskFault)
             }
-            Outcome::Unroomy => {
+            AppendOutcome::NoMemory => {
                 discard(e);
                 Err(BookFault::Memory)
             }
@@ -246,18 +237,13 @@ impl<D: Disk> Book<D> {
         ensures crash { D.is_honest self.old.disk → CrashLeaves D.moment D.left_since
             (BookWithOrWithout self.old.entries self.old.tried) self.old.disk self.new.disk }
     {
-        match reread(self.alloc, &mut self.journal, self.kept.as_slice()) {
+        match reread(self.alloc, &mut self.journal, &self.kept) {
             Ok(kept) => {
-                self.used = self.journal.used();
                 self.kept = kept;
-                self.spent = None;
                 forget(&mut self.tried);
                 Ok(())
             }
-            Err(fault) => {
-                self.spent = after_refusal(&fault, self.spent, self.journal.faults());
-                Err(fault)
-            }
+            Err(fault) => Err(fault),
         }
     }
 
@@ -280,7 +266,7 @@ impl<D: Disk> Book<D> {
     pub fn used(&self) -> u64
         ensures { result ≡ journal_length self.now.entries }
     {
-        self.used
+        self.journal.used()
     }
 
     /// The bytes to be kept free in the journal: 8 MiB for each open job, 64 for each notification that is owed and wasn't answered, 64
@@ -374,9 +360,7 @@ impl<D: Disk> Book<D> {
             alloc: _,
             journal,
             kept: _,
-            spent: _,
             tried: _,
-            used: _,
         } = self;
         journal.release()
     }

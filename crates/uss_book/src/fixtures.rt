@@ -32,6 +32,14 @@ pub(crate) enum Coding {
     // An end of flight 7 after that, and that it ended, with nobody to tell.
     Next,
     Ended,
+    // A record of an attempt that wasn't made, that the job is to end as cancelled or with a stale key, that it ended so or with a
+    // conflict, and that its ticket is gone.
+    OtherHeld,
+    Cancelling,
+    Stale,
+    Cancelled,
+    Conflicted,
+    Gone,
     // No coding: a byte too many, and none.
     Long,
     Empty,
@@ -68,6 +76,16 @@ pub(crate) fn bytes_of(coding: Coding) -> &'static [u8] {
             b"\x02\0\0\0\0\0\0\0\x02\x0d#L\xcfRC\0\0\0\0\0\0\0\0\0\x07\0\0\0\0\0\0\0\x03\x02"
         }
         Coding::Ended => b"\x07\0\0\0\0\0\0\0\x02\x04\0\0\0\0",
+        Coding::OtherHeld => {
+            b"\x05\0\0\0\0\0\0\0\x01\0\0\0\0\0\0\0\x02\0\0\0\x14ovn-0000000000000001\0\0\0\x01\0\0\0\0"
+        }
+        Coding::Cancelling => b"\x06\0\0\0\0\0\0\0\x01\x03",
+        Coding::Stale => b"\x06\0\0\0\0\0\0\0\x01\x02\0\0\0\0",
+        Coding::Cancelled => b"\x07\0\0\0\0\0\0\0\x01\x03",
+        Coding::Conflicted => {
+            b"\x07\0\0\0\0\0\0\0\x01\x01\0\0\0\x02\0\0\x40\0\x80\0\0\0\0\0\0\x01\0\0\0\x03usr\x01"
+        }
+        Coding::Gone => b"\x08\0\0\0\0\0\0\0\x01",
         Coding::Long => b"\x03\0\0\0\0\0\0\0\x01\0",
         Coding::Empty => b"",
     }

@@ -5,7 +5,7 @@ ghost use Rattle.uss_journal.specs.Format.{stands_for};
 ghost use Rattle.uss_journal.specs.Journal.{StandsFor, mounted};
 ghost use Rattle.uss_law_book.specs.Legal.{IsLegal};
 ghost use Rattle.uss_book.specs.Book.{records_of, StandsForBook};
-ghost use Rattle.uss_book.specs.Refusal.{IsPassedOn, passed_on, MountRefused, ReadBy, IsLeft, disk_read};
+ghost use Rattle.uss_book.specs.Refusal.{IsPassedOn, passed_on, ViewRefused, ReadBy, IsLeft, disk_read};
 
 use crate::judge::entries_of;
 use crate::{BookFault, BookRefusal};
@@ -29,7 +29,7 @@ pub(crate) fn passed_on(refusal: JournalRefusal) -> BookFault
 
 /// Mounts the journal that the disk's file holds, and reads the entries that its records are the codings of.
 pub(crate) fn load<D: Disk>(alloc: Global, disk: D) -> Result<(Journal<D>, Entries), BookRefusal<D>>
-    ensures refused { IfErr result (λ r. MountRefused (D.fault_count disk) (D.fault_count r.back) r.refusal) }
+    ensures refused { IfErr result (λ r. ViewRefused (D.fault_count disk) (D.fault_count r.back) r.refusal) }
     ensures unspent { IfOk result (λ x. (x.0.spent ≡ None) × (x.0.tried ≡ None)) }
     ensures legal { IfOk result (λ x. IsLegal x.1.entries) }
     ensures records { IfOk result (λ x. records_of x.1.entries ≡ x.0.records) }

@@ -7,6 +7,7 @@ ghost use Rattle.uss_law_book.specs.Lists.{owner_of};
 
 use uss_entries::Entries;
 use uss_event::{Entry, Owner};
+use uss_legal::Tells;
 
 /// Whether both are one owner: each of their parts is the same.
 pub(crate) fn is_same(a: &Owner, b: &Owner) -> bool
@@ -19,12 +20,12 @@ pub(crate) fn is_same(a: &Owner, b: &Owner) -> bool
 }
 
 /// Whether the entries are of this owner's book.
-pub(crate) fn is_of(entries: &[Entry], owner: &Owner) -> bool
-    ensures { IsTrue result ↔ (owner_of entries.now ≡ Some owner.now) }
+pub(crate) fn is_of(kept: &Entries, owner: &Owner) -> bool
+    ensures { IsTrue result ↔ (owner_of kept.now.entries ≡ Some owner.now) }
 {
-    match entries {
-        [Entry::Owner(kept), ..] => is_same(kept, owner),
-        _ => false,
+    match kept.owner() {
+        Some(first) => is_same(first, owner),
+        None => false,
     }
 }
 
@@ -47,6 +48,7 @@ pub(crate) fn first_entry(owner: Owner) -> Entry
     ensures is { result ≡ Enters.Owner owner }
     ensures coding { HasCoding result }
 {
+    // What the types of a name, a base URL and a table hold is brought to the proof.
     let _name = owner.name.as_bytes();
     let _base = owner.base.as_bytes();
     let _table = owner.table.priorities();

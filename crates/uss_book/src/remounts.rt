@@ -232,6 +232,22 @@ fn are_reread(rt: &impl Abort, alloc: Global) -> Result<bool, AllocError> {
     is_reread_as(rt, alloc, other, refused(143, 0))
 }
 
+// Whether a remount that finds the file empty writes nothing to it.
+fn is_left_empty(rt: &impl Abort, alloc: Global) -> Result<bool, AllocError> {
+    match turning(rt, alloc, Vec::new(alloc), 2, 0)? {
+        Some(mut book) => Ok(
+            remounted(&mut book) == refused(154, 0) && book.release().writes() == 0,
+        ),
+        None => Ok(false),
+    }
+}
+
+#[test]
+fn a_lost_file_is_not_written(rt: HostRuntime) -> Result<(), Fail> {
+    assert!(rt; is_left_empty(&rt, rt.alloc())?);
+    Ok(())
+}
+
 #[test]
 fn a_book_is_read_as_no_journal(rt: HostRuntime) -> Result<(), Fail> {
     assert!(rt; are_reread(&rt, rt.alloc())?);

@@ -4,7 +4,7 @@ ghost use Rattle.uss_disk.specs.Disk.{CrashLeaves};
 ghost use Rattle.uss_journal.specs.Format.{stands_for};
 ghost use Rattle.uss_law_book.specs.Legal.{IsLegal};
 ghost use Rattle.uss_book.specs.Book.{StandsForBook, new_book, records_of};
-ghost use Rattle.uss_book.specs.Refusal.{MountRefused, SaysNothing, UnlessFault};
+ghost use Rattle.uss_book.specs.Refusal.{ViewRefused, SaysNothing, UnlessFault};
 
 use crate::BookFault;
 use crate::load::passed_on;
@@ -27,7 +27,7 @@ pub(crate) fn start<D: Disk>(
     requires empty { kept.old.entries ≡ [] }
     requires unwritten { journal.old.records ≡ [] }
     requires reopened { journal.old.spent ≡ None }
-    ensures refused { IfErr result (MountRefused (D.fault_count journal.old.disk) (D.fault_count journal.new.disk)) }
+    ensures refused { IfErr result (ViewRefused (D.fault_count journal.old.disk) (D.fault_count journal.new.disk)) }
     ensures free { IfErr result SaysNothing }
     ensures untouched { IfErr result (λ r. UnlessFault r (journal.new.disk ≡ journal.old.disk)) }
     ensures entries { OnOk result (kept.new.entries ≡ new_book owner) }

@@ -13,7 +13,7 @@ use uss_event::{Entry, Pair};
 use uss_legal::Tells;
 
 // What a mount of these records answers: how many entries there are, or the number of a refusal and what it carries.
-const JUDGED: [(&[Coding], u64, u16, u64); 18] = [
+const JUDGED: [(&[Coding], u64, u16, u64); 28] = [
     (&[], 1, 0, 0),
     (&[Coding::Owner], 1, 0, 0),
     (
@@ -69,6 +69,139 @@ const JUDGED: [(&[Coding], u64, u16, u64); 18] = [
         3,
     ),
     (&[Coding::Owner, Coding::Plan, Coding::Sent], 0, 151, 2),
+    // The record of an attempt that wasn't made.
+    (
+        &[
+            Coding::Owner,
+            Coding::Plan,
+            Coding::Ticket,
+            Coding::Trial,
+            Coding::OtherHeld,
+        ],
+        0,
+        151,
+        4,
+    ),
+    // A decision before the first attempt; that the key is stale while a round is left, and when none is.
+    (
+        &[
+            Coding::Owner,
+            Coding::Plan,
+            Coding::Ticket,
+            Coding::Cancelling,
+        ],
+        0,
+        151,
+        3,
+    ),
+    (
+        &[
+            Coding::Owner,
+            Coding::Plan,
+            Coding::Ticket,
+            Coding::Trial,
+            Coding::Stale,
+        ],
+        0,
+        151,
+        4,
+    ),
+    (
+        &[
+            Coding::Owner,
+            Coding::Plan,
+            Coding::Ticket,
+            Coding::Trial,
+            Coding::Further,
+            Coding::Stale,
+        ],
+        6,
+        0,
+        0,
+    ),
+    // An end as it was decided, with which the ticket is gone, and another one.
+    (
+        &[
+            Coding::Owner,
+            Coding::Plan,
+            Coding::Ticket,
+            Coding::Trial,
+            Coding::Cancelling,
+            Coding::Cancelled,
+        ],
+        6,
+        0,
+        0,
+    ),
+    (
+        &[
+            Coding::Owner,
+            Coding::Plan,
+            Coding::Ticket,
+            Coding::Trial,
+            Coding::Cancelling,
+            Coding::Cancelled,
+            Coding::Gone,
+        ],
+        0,
+        151,
+        6,
+    ),
+    (
+        &[
+            Coding::Owner,
+            Coding::Plan,
+            Coding::Ticket,
+            Coding::Trial,
+            Coding::Cancelling,
+            Coding::Conflicted,
+        ],
+        0,
+        151,
+        5,
+    ),
+    // A ticket that is needed is gone.
+    (
+        &[
+            Coding::Owner,
+            Coding::Plan,
+            Coding::Ticket,
+            Coding::Trial,
+            Coding::Held,
+            Coding::Gone,
+        ],
+        0,
+        151,
+        5,
+    ),
+    // A notification is answered, and answered twice.
+    (
+        &[
+            Coding::Owner,
+            Coding::Plan,
+            Coding::Ticket,
+            Coding::Trial,
+            Coding::Held,
+            Coding::Sent,
+        ],
+        6,
+        0,
+        0,
+    ),
+    (
+        &[
+            Coding::Owner,
+            Coding::Plan,
+            Coding::Ticket,
+            Coding::Trial,
+            Coding::Held,
+            Coding::Sent,
+            Coding::Sent,
+        ],
+        0,
+        151,
+        6,
+    ),
     // No entry's coding.
     (&[Coding::Owner, Coding::Plan, Coding::Long], 0, 151, 2),
     (&[Coding::Owner, Coding::Empty], 0, 151, 1),

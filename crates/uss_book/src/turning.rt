@@ -13,6 +13,7 @@ pub(crate) struct Turning {
     turns: u64,
     failing: u64,
     syncs: u64,
+    writes: u64,
     faults: u64,
 }
 
@@ -25,8 +26,14 @@ impl Turning {
             turns,
             failing,
             syncs: 0,
+            writes: 0,
             faults: 0,
         }
+    }
+
+    // How often it was written or cut.
+    pub(crate) fn writes(&self) -> u64 {
+        self.writes
     }
 
     fn file(&self) -> &[u8] {
@@ -69,10 +76,12 @@ impl Disk for Turning {
     }
 
     fn write_at(&mut self, _at: u64, _bytes: &[u8]) -> Result<(), DiskFault> {
+        self.writes = self.writes.saturating_add(1);
         Ok(())
     }
 
     fn cut(&mut self, _len: u64) -> Result<(), DiskFault> {
+        self.writes = self.writes.saturating_add(1);
         Ok(())
     }
 

@@ -4,7 +4,7 @@ ghost use Rattle.uss_journal.specs.Format.{stands_for};
 ghost use Rattle.uss_journal.specs.Journal.{mounted};
 ghost use Rattle.uss_law_book.specs.Legal.{IsLegal};
 ghost use Rattle.uss_book.specs.Book.{StandsForBook};
-ghost use Rattle.uss_book.specs.Refusal.{MountRefused, ReadBy, IsLeft, disk_viewed};
+ghost use Rattle.uss_book.specs.Refusal.{ViewRefused, ReadBy, IsLeft, disk_viewed};
 
 use crate::BookRefusal;
 use crate::load::load;
@@ -17,7 +17,7 @@ use uss_intent::Sequence;
 /// 143, 151 and want of memory, as those of a mount, and hand the disk back. The file stays, but that one of at most nine bytes is made a
 /// new, empty journal.
 pub fn view<D: Disk>(alloc: Global, disk: D) -> Result<(Entries, D), BookRefusal<D>>
-    ensures refused { IfErr result (λ r. MountRefused (D.fault_count disk) (D.fault_count r.back) r.refusal) }
+    ensures refused { IfErr result (λ r. ViewRefused (D.fault_count disk) (D.fault_count r.back) r.refusal) }
     ensures legal { IfOk result (λ x. IsLegal x.0) }
     ensures count { D.fault_count disk ≤ D.fault_count (disk_viewed result) }
     ensures calm { IfOk result (λ x. D.fault_count x.1 ≡ D.fault_count disk) }

@@ -1,5 +1,5 @@
 -- What is known of a journal whose file is read again, and what a crash within that leaves.
-use Rattle.std.proofs.Common.{◌≡◌, ◌⊎◌, inl, inr, ⊎_elim, ℕ, ◌+◌, ◌≤◌, Bool, List, [], ◌∷◌, ◌++◌, length, take, drop, get_or, Option, Some, None, cond, sym, ap, ◌∙◌, arith, take-append-drop, drop_of_length-le}
+use Rattle.std.proofs.Common.{◌≡◌, ◌⊎◌, inl, inr, ⊎_elim, ℕ, ◌+◌, ◌<◌, ◌≤◌, Bool, List, [], ◌∷◌, ◌++◌, length, take, drop, get_or, Option, Some, None, Ok, cond, sym, ap, ◌∙◌, arith, take-append-drop, drop_of_length-le}
 use Rattle.std.proofs.lemmas.List.{take_all}
 use Rattle.std.proofs.Math.Seq.{drop-cons}
 use Rattle.std.proofs.lemmas.Bool.Decides.{leb_tells}
@@ -10,7 +10,7 @@ use Rattle.uss_journal.specs.Gates.{Gated, records_between, tried_of}
 use Rattle.uss_journal.specs.Journal.{StandsFor, WithOrWithout, mounted}
 use Rattle.uss_journal.specs.Sound.{IsSound, IsSettled, IsReady, Untouched}
 use Rattle.uss_journal.specs.declared.known.Known.{Known}
-use Rattle.uss_journal.proofs.Stands.{gate_low}
+use Rattle.uss_journal.proofs.Stands.{gate_low, stands_short}
 
 -- a file that stands for the same
 pub same_file : (records : List (List ℕ)) (tried : Option (List ℕ)) (a b : List ℕ) → stands_for a ≡ stands_for b → WithOrWithout records tried b → WithOrWithout records tried a
@@ -26,6 +26,19 @@ crash_known moment left_since old new may_leave records tried file left now leav
     crash_weaker moment left_since old new (λ image. may_leave image ⊎ (stands_for image ≡ stands_for file)) (WithOrWithout records tried)
     (λ image p. ⊎_elim (left image) (λ same. same_file records tried image file same (left file now)) p)
     leaves
+
+-- a file that stands for known records has more than nine bytes
+pub longer : (records : List (List ℕ)) (tried : Option (List ℕ)) (file : List ℕ) → 0 < length records → WithOrWithout records tried file → 9 < length file
+longer records tried file some p = elim (leb_tells (length file) 9) [
+  | inl short ↦ absurd (lost records tried some p (stands_short file short.1))
+  | inr long ↦ long.1
+]
+  where
+    lost : (rs : List (List ℕ)) (t : Option (List ℕ)) → 0 < length rs → WithOrWithout rs t file → stands_for file ≡ Ok [] → ⊥
+    lost [] t more h none = omega (arith, more)
+    lost (r ∷ rs) t more (inl h) none = cc
+    lost (r ∷ rs) None more (inr h) none = absurd h
+    lost (r ∷ rs) (Some entry) more (inr h) none = cc
 
 -- ---- what is known stays so
 

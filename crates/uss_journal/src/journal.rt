@@ -68,7 +68,7 @@ impl<D: Disk> Journal<D> {
             (λ image. D.may_leave disk image ⊎ (stands_for image ≡ stands_for (bytes_of (D.reads disk)))) disk (disk_after result) }
     {
         let mut disk = disk;
-        match load(alloc, &mut disk) {
+        match load(alloc, &mut disk, 0) {
             Ok(known) => Ok(Journal {
                 alloc,
                 disk,
@@ -118,7 +118,8 @@ impl<D: Disk> Journal<D> {
     }
 
     /// Reads again what its own disk holds, as a mount does. What was found is kept beside the known records, which stay:
-    /// it can be looked at, and taken over by `adopt`. After a refusal there is none, and a journal that was spent stays so.
+    /// it can be looked at, and taken over by `adopt`. After a refusal there is none; a journal that was spent stays so, and a
+    /// fault of the disk leaves any spent.
     pub fn reread(&mut self) -> Result<(), JournalRefusal>
         ensures answer { MatchResult result (λ _. Reread self.old self.new) (λ r. RemountRefused D.fault_count self.old r self.new) }
         ensures count { D.fault_count self.old.disk ≤ D.fault_count self.new.disk }
@@ -136,7 +137,7 @@ impl<D: Disk> Journal<D> {
             (WithOrWithout self.old.records self.old.tried) self.old.disk self.new.disk }
     {
         self.found = None;
-        match load(self.alloc, &mut self.disk) {
+        match load(self.alloc, &mut self.disk, self.known.count()) {
             Ok(found) => {
                 self.found = Some(found);
                 Ok(())
@@ -163,8 +164,8 @@ impl<D: Disk> Journal<D> {
         }
     }
 
-    /// Mounts again what its own disk holds. After a refusal the records are those known before, and a journal that was
-    /// spent stays so.
+    /// Mounts again what its own disk holds. After a refusal the records are those known before; a journal that was spent
+    /// stays so, and a fault of the disk leaves any spent.
     pub fn remount(&mut self) -> Result<(), JournalRefusal>
         ensures answer { MatchResult result (λ _. (self.new.spent ≡ None) × (self.new.tried ≡ None))
             (λ r. RemountRefused D.fault_count self.old r self.new) }
@@ -226,6 +227,13 @@ impl<D: Disk> Journal<D> {
         ensures { result ≡ used_of self.now.records }
     {
         self.known.used()
+    }
+
+    /// Where it is spent, its disk's count of faults when it last answered a fault.
+    pub fn spent(&self) -> Option<u64>
+        ensures { result ≡ self.now.spent }
+    {
+        self.spent
     }
 
     /// How many faults its disk has counted.

@@ -14,8 +14,14 @@ use crate::scan::scan;
 use std::alloc::Global;
 use uss_disk::{Disk, DiskFault};
 
-/// Syncs, and reads the journal that the file holds. A file of at most nine bytes is made a new, empty journal.
-pub(crate) fn load<D: Disk>(alloc: Global, disk: &mut D) -> Result<Known, JournalRefusal>
+/// Syncs, and reads the journal that the file holds. A file of at most nine bytes is made a new, empty journal, unless records of it are
+/// known: then it has lost them, which no honest disk does, and nothing is written.
+pub(crate) fn load<D: Disk>(
+    alloc: Global,
+    disk: &mut D,
+    known: usize,
+) -> Result<Known, JournalRefusal>
+    requires { D.is_honest disk.old → 0 < known → 9 < length (bytes_of (D.reads disk.old)) }
     ensures refused { IfErr result (MountRefused (D.fault_count disk.old) (D.fault_count disk.new)) }
     ensures calm { OnOk result (D.fault_count disk.new ≡ D.fault_count disk.old) }
     ensures count { D.fault_count disk.old ≤ D.fault_count disk.new }
@@ -35,11 +41,13 @@ pub(crate) fn load<D: Disk>(alloc: Global, disk: &mut D) -> Result<Known, Journa
 {
     disk.sync()?;
     let len = disk.len()?;
-    if len <= 9 {
-        make(alloc, disk, len)
-    } else {
-        scan(alloc, disk, len)
+    if len > 9 {
+        return scan(alloc, disk, len);
     }
+    if known > 0 {
+        return Ok(Known::new(alloc)?);
+    }
+    make(alloc, disk, len)
 }
 
 // Makes a new, empty journal of a file of at most nine bytes, all of them on the medium.

@@ -1,6 +1,4 @@
-use Rattle.std.proofs.Common.{◌∙◌, inl, refl, sym, ap, None}
-use Rattle.uss_journal.specs.Format.{used_of}
-use Rattle.uss_book.proofs.Lengths.{used_is}
+use Rattle.std.proofs.Common.{inl, refl, sym, None}
 use Rattle.uss_book.proofs.Entering.{as_read}
 use Rattle.uss_book.proofs.book.made.Goals as goal
 
@@ -8,8 +6,6 @@ pub invariant_of-result : goal.invariant_of-result
 invariant_of-result g c =
     record {
       legal = c.requires.legal;
-      used_is = c.used-used.ensures ∙ ap used_of (sym c.requires.records) ∙ used_is c.args.kept.entries;
-      unspent = λ now. c.requires.unspent;
       records = sym c.requires.records;
       untried = λ now. refl;
       follows = tt;

@@ -21,15 +21,15 @@ scanned_found : (file : List ℕ) (result : Result Known JournalRefusal) → IfO
 scanned_found file (Ok k) gated front refused = stands_front k.bytes.items file k.gates.items k.last gated front
 scanned_found file (Err e) gated front refused = refused
 
-pub returns-then-len-le9-clause-found : goal.returns-then-len-le9-clause-found
-returns-then-len-le9-clause-found g c = λ honest.
+pub returns-clause-found : goal.returns-clause-found
+returns-clause-found g c = λ honest.
     let file = bytes_of (g.D.Disk.reads c.args.disk.now) in
     let still = c.sync.ensures.honest.1 honest in
     let same : bytes_of (g.D.Disk.reads c.sync.new.self) ≡ file = ap bytes_of (c.sync.ensures.reading honest) in
-    made_found file c.make.result (omega (arith, c.if-len-le9.true, c.in_ok-len.ensures.length still, ap length same)) c.make.ensures.made (c.make.ensures.refused_by file)
+    made_found file c.make.result (omega (arith, c.if-len-gt9.false, c.in_ok-len.ensures.length still, ap length same)) c.make.ensures.made (c.make.ensures.refused_by file)
 
-pub returns-else-len-le9-clause-found : goal.returns-else-len-le9-clause-found
-returns-else-len-le9-clause-found g c = λ honest.
+pub returns-then-len-gt9-clause-found : goal.returns-then-len-gt9-clause-found
+returns-then-len-gt9-clause-found g c = λ honest.
     let file = bytes_of (g.D.Disk.reads c.args.disk.now) in
     let still = c.sync.ensures.honest.1 honest in
     let now = c.len.ensures.honest.1 still in

@@ -21,11 +21,11 @@ pub invariant_of-self-in-Done : goal.invariant_of-self-in-Done
 invariant_of-self-in-Done g c =
     let D = g.D.Disk in
     let old = c.self.inside in
-    let unspent = none_from_not old.spent c.in_default.not-Some in
+    let unspent = none_from_not old.journal.spent (λ x e. c.in_default.not-Some x (c.spent.ensures ∙ e)) in
     let is_entries : old.kept.entries ≡ c.args.self.now.entries = ap (λ (v : BookView g.row.D.Denot). v.entries) c.self.view_is in
     let m = subst (λ (es : List Entry). MayFollow es c.args.e) (sym is_entries) c.requires in
     let coded : c.as_slice.result.now ≡ coding_of c.args.e = c.as_slice.ensures.value ∙ c.in-Ok.ensures.coding in
     let last : c.enter.new.self.entries ≡ old.kept.entries ++ c.args.e ∷ [] = c.enter.ensures ∙ ap (λ (l : List Entry). l ++ c.args.e ∷ []) c.in-Ok.ensures.entries in
-    entered_whole D.may_leave D.is_honest old.journal c.append.new.journal old.kept.entries c.args.e old.spent old.tried old.used c.self.invariant unspent c.as_slice.result.now coded m
-    D.fault_count c.enter.new.self.entries c.used-self-inside.result c.in-Done.ensures.answer last c.used-self-inside.ensures
+    entered_whole D.may_leave D.is_honest old.journal c.append.new.journal old.kept.entries c.args.e old.tried c.self.invariant unspent c.as_slice.result.now coded m
+    c.enter.new.self.entries c.in-Done.ensures.answer last
     (λ honest image may. c.in-Done.ensures.durable (c.append.ensures.honest.0 honest) image may)

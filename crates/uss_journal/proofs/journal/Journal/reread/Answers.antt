@@ -1,9 +1,16 @@
-use Rattle.std.proofs.Common.{rules, ◌≡◌, ℕ, List, Option, ap, sym, subst}
+use Rattle.std.proofs.Common.{arith, rules, ◌≡◌, ℕ, List, Option, ap, sym, subst}
 use Rattle.uss_disk.specs.Disk.{bytes_of, CrashLeaves}
 use Rattle.uss_journal.specs.Gates.{records_between, tried_of}
 use Rattle.uss_journal.specs.Journal.{JournalView, WithOrWithout}
-use Rattle.uss_journal.proofs.Remount.{crash_known, sound_untouched, sound_mounted, ready}
+use Rattle.uss_journal.proofs.Remount.{crash_known, longer, sound_untouched, sound_mounted, ready}
 use Rattle.uss_journal.proofs.journal.Journal.reread.Goals as goal
+
+pub load-requires : goal.load-requires
+load-requires g c = λ honest some.
+    let D = g.D.Disk in
+    let old = c.self.inside in
+    longer (records_between old.known.bytes.items 8 old.known.gates.items) (tried_of old.known.bytes.items old.known.last) (bytes_of (D.reads old.disk))
+    (omega (arith, some, c.count.ensures)) (c.self.invariant.0.left honest (bytes_of (D.reads old.disk)) (g.met.D.Disk.as_it_reads old.disk honest))
 
 pub invariant_of-self : goal.invariant_of-self
 invariant_of-self g c =
