@@ -10,7 +10,7 @@ use Rattle.uss_coding.specs.Coding.{coding_of}
 
 -- a book: its disk; its entries, the oldest first; where it is spent, its disk's count of faults when it last answered a fault; the
 -- entry that it had tried to enter when it answered a fault, if it had tried one; and the records that a remount found which was
--- refused, unless an entry was entered or its disk was read again since
+-- refused, unless an entry was tried or its disk was read again since
 pub record BookView (D : Type 0) : Type 0 where
   pub disk : D
   pub entries : List Entry

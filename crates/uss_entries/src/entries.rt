@@ -116,6 +116,7 @@ impl Entries {
         requires { HasCoding e.now }
         ensures { IsTrue result ↔ MayFollow self.now.entries e.now }
     {
+        // What is true of the list is brought to the proof.
         let _ = count(&self.entries);
         if is_due(self, e) {
             covers(self.need, self.settled, &self.entries, &self.index, e)

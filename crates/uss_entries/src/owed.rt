@@ -44,6 +44,7 @@ impl Entries {
     fn owed_count(&self, job: u64) -> u32
         ensures { result ≡ length (owed_of job self.now.entries) }
     {
+        // What is true of the index is brought to the proof.
         let _ = &self.index;
         owed_length(self, job) as u32
     }

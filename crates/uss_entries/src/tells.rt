@@ -122,6 +122,7 @@ impl Tells for Entries {
     }
 
     fn owns(&self, job: u64, tag: u64) -> bool {
+        // What is true of the index is brought to the proof.
         let _ = &self.index;
         is_by_job(job, self.attempt(tag))
     }
@@ -153,6 +154,7 @@ impl Tells for Entries {
     }
 
     fn open_job(&self, flight: u64) -> Option<&Entry> {
+        // What is true of the index is brought to the proof.
         let _ = &self.index;
         let last = self.last(flight);
         if self.is_unclosed(last) { last } else { None }

@@ -71,7 +71,7 @@ pub trait Tells {
     fn has_ticket(&self, job: u64) -> bool
         ensures { result ≡ is_ticket_open job (entries self.now) };
 
-    /// Whether a closed job's ticket was heard as gone.
+    /// Whether an entry of its own says that a closed job's ticket is gone.
     fn is_retired(&self, job: u64) -> bool
         ensures { result ≡ is_one_of job (tickets_gone (entries self.now)) };
 
