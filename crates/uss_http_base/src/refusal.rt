@@ -1,5 +1,3 @@
-use std::alloc::{AllocError, AllocFailed};
-
 /// Why a message was not read. In brackets the number of the refusal.
 #[derive(Clone, Copy, Debug, PartialEq, Eq)]
 pub enum ReadRefusal {
@@ -19,26 +17,4 @@ pub enum ReadRefusal {
     Fault,
     /// Memory is wanting.
     Memory,
-}
-
-impl From<AllocError> for ReadRefusal {
-    ghost use Rattle.std.specs.Prelude.{◌≡◌};
-    ghost use Rattle.uss_http_base.specs.declared.refusal.ReadRefusal.TheVariants.{Memory};
-
-    ghost from_gives = { λ _ e. e ≡ Memory };
-
-    fn from(_: AllocError) -> ReadRefusal {
-        ReadRefusal::Memory
-    }
-}
-
-impl<T: Drop> From<AllocFailed<T>> for ReadRefusal {
-    ghost use Rattle.std.specs.Prelude.{◌≡◌};
-    ghost use Rattle.uss_http_base.specs.declared.refusal.ReadRefusal.TheVariants.{Memory};
-
-    ghost from_gives = { λ _ e. e ≡ Memory };
-
-    fn from(_: AllocFailed<T>) -> ReadRefusal {
-        ReadRefusal::Memory
-    }
 }
