@@ -1,4 +1,4 @@
-ghost use Rattle.std.specs.Prelude.{◌≡◌, ◌≢◌, ℕ, ◌≤◌, List, Some, Err};
+ghost use Rattle.std.specs.Prelude.{◌≡◌, ◌≢◌, ℕ, ◌≤◌, Bool, IsTrue, List, Some, Err, OnOk};
 ghost use Rattle.uss_cause.specs.Cause.{Rose};
 ghost use Rattle.uss_http.specs.Refusals.{IsReadFrom, ButForFaults};
 ghost use Rattle.uss_http.specs.Responses.{IsReadOver};
@@ -33,11 +33,13 @@ pub fn read_request<S: Source>(alloc: Global, input: &mut S) -> Result<Request, 
 /// received, the answer is that of all the bytes up to the end of the stream, whatever pieces they come in: the response at
 /// their front, or why there is none. A response that isn't complete is refused. Bytes behind it may have been received too: a
 /// connection carries one response. But bytes are taken only while those before leave the answer open, and fewer than 24 KiB
-/// behind them. Whatever the answer, what was sent stays as it was, and the stream stays open.
+/// behind them. Whatever the answer, what was sent stays as it was, and the stream stays open. A response comes only where one was
+/// open.
 pub fn read_response<G: Dial>(alloc: Global, dial: &mut G) -> Result<Response, HttpRefusal>
     ensures exact { (talks : List Talk) → G.talks dial.old ≡ Some talks → IsReadOver talks (G.talks dial.new) result }
     ensures prompt { (talks : List Talk) → G.talks dial.old ≡ Some talks → ButForFaults result (ReceivesPromptly talks (G.talks dial.new)) }
     ensures stream { Stays (G.is_open dial.old) (G.is_open dial.new) }
+    ensures over { (was : Bool) → G.is_open dial.old ≡ Some was → OnOk result (IsTrue was) }
     ensures kept { G.faults dial.old ≤ G.faults dial.new }
     ensures fault { result ≡ Err HttpRefusal.DialFault → Rose (G.faults dial.old) (G.faults dial.new) }
     ensures calm { result ≢ Err HttpRefusal.DialFault → G.faults dial.new ≡ G.faults dial.old }

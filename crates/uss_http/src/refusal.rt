@@ -8,7 +8,8 @@ use uss_http_base::{Bytes, ReadRefusal};
 pub enum HttpRefusal {
     /// 16 KiB were taken that hold no whole head (431).
     HeadTooLarge,
-    /// What came can't begin a head, or the head says two things of its body (432).
+    /// What came can't begin a head, or its fields say of the body what isn't accepted: a `Content-Length` that isn't a
+    /// decimal number, a `Transfer-Encoding` other than `chunked`, one of these twice, or both (432).
     BadHead,
     /// The body has more than 8 MiB (433).
     BodyTooLarge,

@@ -69,6 +69,94 @@ fn requests_that_are_sent_are_read_again(rt: HostRuntime) -> Result<(), Fail> {
     Ok(())
 }
 
+/// What a hostile client sends, how often, and the number of the refusal.
+const HOSTILE: [(&str, usize, u16); 8] = [
+    ("A", 16384, 431),
+    (
+        "PUT / HTTP/1.1\r\nUSS-Client: uss1\r\nContent-Length: 5\r\nTransfer-Encoding: chunked\r\n\r\n5\r\nhello\r\n0\r\n\r\n",
+        1,
+        432,
+    ),
+    (
+        "PUT / HTTP/1.1\r\nUSS-Client: uss1\r\nContent-Length: 5\r\nContent-Length: 5\r\n\r\nhello",
+        1,
+        432,
+    ),
+    ("GET / HTTP/1.1\r\nHost: b.example\r\n\r\n", 1, 438),
+    (
+        "GET / HTTP/1.1\r\nUSS-Client: uss1\r\nUSS-Client: uss1\r\n\r\n",
+        1,
+        438,
+    ),
+    (
+        "PUT / HTTP/1.1\r\nUSS-Client: uss1\r\nContent-Length: 8388609\r\n\r\n",
+        1,
+        433,
+    ),
+    (
+        "PUT / HTTP/1.1\r\nUSS-Client: uss1\r\nTransfer-Encoding: chunked\r\n\r\nzz\r\n",
+        1,
+        434,
+    ),
+    (CUT, 1, 435),
+];
+
+/// A request whose body is cut short.
+const CUT: &str = "PUT / HTTP/1.1\r\nUSS-Client: uss1\r\nContent-Length: 5\r\n\r\nhel";
+
+/// A request whose body comes in chunks.
+const CHUNKED: &str =
+    "PUT / HTTP/1.1\r\nUSS-Client: uss1\r\nTransfer-Encoding: chunked\r\n\r\n5\r\nhello\r\n0\r\n\r\n";
+
+/// Reads one request of this text, which stands so often, in pieces of this size, where the call with this number fails.
+fn received(
+    alloc: Global,
+    (text, times): (&str, usize),
+    piece: usize,
+    failing: u64,
+) -> Result<Result<Request, HttpRefusal>, Fail> {
+    let mut bytes = Vec::new(alloc);
+    for _ in 0..times {
+        bytes.extend_from_slice(text.as_bytes())?;
+    }
+    let mut source = MemorySource::new(alloc, bytes)
+        .failing_at(vec![in alloc; failing]?)
+        .in_pieces_of(piece);
+    Ok(read_request(alloc, &mut source))
+}
+
+/// Whether the answer is a refusal with this number.
+fn is_refusal(answer: &Result<Request, HttpRefusal>, number: u16) -> bool {
+    match answer {
+        Ok(_) => false,
+        Err(refusal) => refusal.number() == number,
+    }
+}
+
+/// Whether the answer is a request with the body `hello`.
+fn says_hello(answer: &Result<Request, HttpRefusal>) -> bool {
+    match answer {
+        Ok(request) => request.body.as_slice() == b"hello".as_slice(),
+        Err(_) => false,
+    }
+}
+
+#[test]
+fn hostile_requests_are_refused(rt: HostRuntime) -> Result<(), Fail> {
+    let alloc = rt.alloc();
+    // one byte at a time, and whole; and the number of the call behind the bytes that are cut short
+    for (piece, behind) in [(1usize, CUT.len() as u64 + 1), (100000, 2)] {
+        for (text, times, number) in HOSTILE {
+            let answer = received(alloc, (text, times), piece, 0)?;
+            assert!(rt; is_refusal(&answer, number), "{number}");
+        }
+        let failed = received(alloc, (CUT, 1), piece, behind)?;
+        assert!(rt; matches!(&failed, Err(HttpRefusal::ReadFault)));
+        assert!(rt; says_hello(&received(alloc, (CHUNKED, 1), piece, 0)?));
+    }
+    Ok(())
+}
+
 /// Statuses, bodies, and the responses that are written of them.
 const RESPONSES: [(u16, &str, &str); 4] = [
     (

@@ -1,4 +1,4 @@
-ghost use Rattle.std.specs.Prelude.{◌≡◌, ◌≢◌, ℕ, ◌+◌, ◌≤◌, ◌⊎◌, ◌++◌, List, length, Some, Err, codes, decimal, IfOk, IfErr, OnOk, OnErr};
+ghost use Rattle.std.specs.Prelude.{◌≡◌, ◌≢◌, ℕ, ◌+◌, ◌<◌, ◌≤◌, ◌⊎◌, ◌++◌, Bool, IsTrue, List, length, Some, Err, codes, decimal, IfOk, IfErr, OnOk, OnErr};
 ghost use Rattle.arrayvec.specs.ArrayVec.{array_vec_len};
 ghost use Rattle.uss_cause.specs.Cause.{Counts, Rose};
 ghost use Rattle.uss_link.specs.Bytes.{TookFront};
@@ -30,7 +30,8 @@ fn add_both(text: &mut Vec<u8>, first: &[u8], second: &[u8]) -> Result<(), Alloc
 
 /// The bytes of a request to this host, up to its body.
 fn head_bytes(alloc: Global, host: &[u8], request: &Request) -> Result<Vec<u8>, AllocError>
-    ensures { IfOk result (λ head. head.items ++ request.now.body ≡ request_text host.now request.now) }
+    ensures text { IfOk result (λ head. head.items ++ request.now.body ≡ request_text host.now request.now) }
+    ensures some { IfOk result (λ head. 0 < length head.items) }
 {
     let mut number = Buffer::new();
     let digits = number.format(request.body.len()).as_bytes();
@@ -43,12 +44,14 @@ fn head_bytes(alloc: Global, host: &[u8], request: &Request) -> Result<Vec<u8>, 
     Ok(text)
 }
 
-/// Sends two pieces one after the other over the open stream, which stays open. On a fault a front of them was sent.
+/// Sends two pieces one after the other over the open stream, which stays open. On a fault a front of them was sent. Bytes
+/// are sent only where a stream was open.
 fn send_both<G: Dial>(dial: &mut G, first: &[u8], second: &[u8]) -> Result<(), DialFault>
     ensures counts { Counts (G.faults dial.old) (G.faults dial.new) result }
     ensures sent { (talks : List Talk) → G.talks dial.old ≡ Some talks → OnOk result (SentFront talks (G.talks dial.new) (first.now ++ second.now) (length (first.now ++ second.now))) }
     ensures front { (talks : List Talk) → G.talks dial.old ≡ Some talks → OnErr result ((n : ℕ) × SentFront talks (G.talks dial.new) (first.now ++ second.now) n) }
     ensures stream { Stays (G.is_open dial.old) (G.is_open dial.new) }
+    ensures over { (was : Bool) → G.is_open dial.old ≡ Some was → 0 < length first.now → OnOk result (IsTrue was) }
 {
     match send_all(dial, first) {
         Ok(()) => {}
@@ -58,7 +61,7 @@ fn send_both<G: Dial>(dial: &mut G, first: &[u8], second: &[u8]) -> Result<(), D
 }
 
 /// Sends a request over the open stream of a dial, which stays open; its body without a copy of it. On a fault a front of its
-/// bytes was sent; for want of memory nothing was.
+/// bytes was sent; for want of memory nothing was. A request is sent only where a stream was open.
 pub fn write_request<G: Dial>(
     alloc: Global,
     dial: &mut G,
@@ -68,6 +71,7 @@ pub fn write_request<G: Dial>(
     ensures sent { (talks : List Talk) → G.talks dial.old ≡ Some talks → OnOk result (SentFront talks (G.talks dial.new) (request_text host.now request.now) (length (request_text host.now request.now))) }
     ensures front { (talks : List Talk) → G.talks dial.old ≡ Some talks → OnErr result ((n : ℕ) × SentFront talks (G.talks dial.new) (request_text host.now request.now) n) }
     ensures stream { Stays (G.is_open dial.old) (G.is_open dial.new) }
+    ensures over { (was : Bool) → G.is_open dial.old ≡ Some was → OnOk result (IsTrue was) }
     ensures unsent { result ≡ Err HttpRefusal.Memory → G.talks dial.new ≡ G.talks dial.old }
     ensures kept { G.faults dial.old ≤ G.faults dial.new }
     ensures causes { IfErr result (λ e. (e ≡ HttpRefusal.DialFault) ⊎ (e ≡ HttpRefusal.Memory)) }

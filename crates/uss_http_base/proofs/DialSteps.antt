@@ -44,6 +44,7 @@ heard_more origin before after first was is past buffer filled n had receives sp
             told = g.are ∙ ap Some (sym (heard_last (take n filled) e g.earlier g.last) ∙ ap (heard (take n filled) e) (sym g.were) ∙ heard_twice past (take n filled) h.is_end e talks);
           };
       stays = stays_on first was is had.stays speaks.stays;
+      over = λ had_one same some. speaks.over had_one (had.stays.told had_one same);
     }
 
 -- one call that answered a fault
@@ -54,6 +55,7 @@ heard_same origin before after first was is past buffer filled e had receives sp
           let h = had.told talks same in
           record { is_end = h.is_end; told = receives.told (heard past h.is_end talks) h.told ∙ ap (λ (bytes : List ℕ). Some (heard bytes h.is_end talks)) (sym (append-nil past)) };
       stays = stays_on first was is had.stays speaks.stays;
+      over = λ had_one same some. had.over had_one same (subst (λ (bytes : List ℕ). 0 < length bytes) (append-nil past) some);
     }
 
 end_given : (n : ℕ) (buffer : List ℕ) → n ≡ 0 → 0 < length buffer → (n == 0 && nat_lt 0 (length buffer)) ≡ true

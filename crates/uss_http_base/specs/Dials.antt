@@ -1,5 +1,5 @@
 -- What was received over the stream that was opened last over a dial. This project's own.
-use Rattle.std.specs.Prelude.{◌≡◌, ℕ, Bool, false, List, [], ◌∷◌, Option, Some, IsTrue}
+use Rattle.std.specs.Prelude.{◌≡◌, ℕ, ◌<◌, Bool, false, List, [], ◌∷◌, length, Option, Some, IsTrue}
 use Rattle.uss_link.specs.Talks.{Talk, with_received, Stays}
 
 -- the streams, with these bytes received over the last of them, and its end where it was given
@@ -19,10 +19,11 @@ pub record Heard (talks : List Talk) (after : Option (List Talk)) (bytes : List 
   pub is_end : Bool
   pub told : after ≡ Some (heard bytes is_end talks)
 
--- where a dial tells, and a stream is open where one was
-pub record HeardFrom (before after : Option (List Talk)) (was is : Option Bool) (bytes : List ℕ) : Type 0 where
+-- where a dial tells; a stream is open where one was, and bytes came only where one was
+pub record HeardFrom (before after : Option (List Talk)) (first is : Option Bool) (bytes : List ℕ) : Type 0 where
   pub told : (talks : List Talk) → before ≡ Some talks → Heard talks after bytes
-  pub stays : Stays was is
+  pub stays : Stays first is
+  pub over : (was : Bool) → first ≡ Some was → 0 < length bytes → IsTrue was
 
 -- where a dial tells, the end of its last stream was given
 pub record IsOver (now : Option (List Talk)) : Type 0 where

@@ -1,6 +1,6 @@
 -- A dial of which nothing is received. This project's own.
 use Rattle.std.specs.Prelude.{◌≡◌, Bool, true, false, ◌||◌, List, [], ◌∷◌, Option, Some}
-use Rattle.std.proofs.Common.{refl, sym, ap, ◌∙◌, append-nil}
+use Rattle.std.proofs.Common.{refl, sym, ap, ◌∙◌, arith, append-nil}
 use Rattle.uss_link.specs.Talks.{Talk, with_received}
 use Rattle.uss_http_base.specs.Dials.{heard, HeardFrom}
 
@@ -18,4 +18,4 @@ heard_none (talk ∷ next ∷ talks) = ap (λ (ts : List Talk). talk ∷ ts) (he
 
 -- between a moment and itself nothing was received
 pub heard_nothing : (now : Option (List Talk)) (is : Option Bool) → HeardFrom now now is is []
-heard_nothing now is = record { told = λ talks same. record { is_end = false; told = same ∙ ap Some (sym (heard_none talks)) }; stays = record { told = λ was same. same } }
+heard_nothing now is = record { told = λ talks same. record { is_end = false; told = same ∙ ap Some (sym (heard_none talks)) }; stays = record { told = λ was same. same }; over = λ was same some. absurd (omega arith) }

@@ -1,7 +1,7 @@
 ghost use Rattle.std.specs.Prelude.{◌≡◌, ℕ, ◌≤◌, List, length, codes};
-ghost use Rattle.httparse.specs.Grammar.{ChunkLine, NeverHasChunkLine, NeverHasSection};
-ghost use Rattle.httparse.specs.Spans.{IsChunkLineAt, IsSectionOf};
-ghost use Rattle.uss_http_base.specs.Chunks.{IsOpenLine, AreOpenTrailers, HasLineEnd, IsOpenLineEnd, NeverHasLineEnd};
+ghost use Rattle.httparse.specs.Grammar.{ChunkLine, NeverHasChunkLine};
+ghost use Rattle.httparse.specs.Spans.{IsChunkLineAt};
+ghost use Rattle.uss_http_base.specs.Chunks.{IsOpenLine, HasLineEnd, IsOpenLineEnd, NeverHasLineEnd};
 ghost use Rattle.uss_http_base.specs.Pieces.{MatchLook, piece_limit};
 
 use crate::piece::{Look, Piece};

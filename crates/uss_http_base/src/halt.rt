@@ -1,4 +1,4 @@
-use std::alloc::{AllocError, AllocFailed};
+use std::alloc::AllocError;
 
 /// Why a part of a message was not read.
 #[derive(Clone, Copy, Debug, PartialEq, Eq)]
@@ -22,17 +22,6 @@ impl From<AllocError> for Halt {
     ghost from_gives = { λ _ e. e ≡ Memory };
 
     fn from(_: AllocError) -> Halt {
-        Halt::Memory
-    }
-}
-
-impl<T: Drop> From<AllocFailed<T>> for Halt {
-    ghost use Rattle.std.specs.Prelude.{◌≡◌};
-    ghost use Rattle.uss_http_base.specs.declared.halt.Halt.TheVariants.{Memory};
-
-    ghost from_gives = { λ _ e. e ≡ Memory };
-
-    fn from(_: AllocFailed<T>) -> Halt {
         Halt::Memory
     }
 }

@@ -1,11 +1,10 @@
-use std::alloc::{AllocError, AllocFailed};
-
 /// Why a message was not read. In brackets the number of the refusal.
 #[derive(Clone, Copy, Debug, PartialEq, Eq)]
 pub enum ReadRefusal {
     /// 16 KiB were taken that hold no whole head (431).
     HeadTooLarge,
-    /// What came can't begin a head, or the head says two things of its body (432).
+    /// What came can't begin a head, or its fields say of the body what isn't accepted: a `Content-Length` that isn't a
+    /// decimal number, a `Transfer-Encoding` other than `chunked`, one of these twice, or both (432).
     BadHead,
     /// The body has more than 8 MiB (433).
     BodyTooLarge,
@@ -19,26 +18,4 @@ pub enum ReadRefusal {
     Fault,
     /// Memory is wanting.
     Memory,
-}
-
-impl From<AllocError> for ReadRefusal {
-    ghost use Rattle.std.specs.Prelude.{◌≡◌};
-    ghost use Rattle.uss_http_base.specs.declared.refusal.ReadRefusal.TheVariants.{Memory};
-
-    ghost from_gives = { λ _ e. e ≡ Memory };
-
-    fn from(_: AllocError) -> ReadRefusal {
-        ReadRefusal::Memory
-    }
-}
-
-impl<T: Drop> From<AllocFailed<T>> for ReadRefusal {
-    ghost use Rattle.std.specs.Prelude.{◌≡◌};
-    ghost use Rattle.uss_http_base.specs.declared.refusal.ReadRefusal.TheVariants.{Memory};
-
-    ghost from_gives = { λ _ e. e ≡ Memory };
-
-    fn from(_: AllocFailed<T>) -> ReadRefusal {
-        ReadRefusal::Memory
-    }
 }

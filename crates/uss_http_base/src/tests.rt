@@ -152,12 +152,26 @@ fn filled(alloc: Global, row: &[u8], count: usize, rest: &[u8]) -> Result<Vec<u8
     Ok(bytes)
 }
 
-/// Reads one request from these bytes, which come in pieces of this size, where the call with this number fails.
+/// A source of these bytes, which come in pieces of this size, where the call with this number fails.
+fn source_of(
+    alloc: Global,
+    bytes: &[u8],
+    piece: usize,
+    failing: u64,
+) -> Result<MemorySource, AllocError> {
+    Ok(
+        MemorySource::new(alloc, Vec::from_slice(alloc, bytes)?)
+            .failing_at(vec![in alloc; failing]?)
+            .in_pieces_of(piece),
+    )
+}
+
+/// Reads one request from such a source.
 fn read(alloc: Global, bytes: &[u8], piece: usize, failing: u64) -> Result<Request, ReadRefusal> {
-    let mut source = MemorySource::new(alloc, Vec::from_slice(alloc, bytes)?)
-        .failing_at(Vec::from_slice(alloc, &[failing])?)
-        .in_pieces_of(piece);
-    request_from(alloc, &mut source)
+    match source_of(alloc, bytes, piece, failing) {
+        Ok(mut source) => request_from(alloc, &mut source),
+        Err(AllocError) => Err(ReadRefusal::Memory),
+    }
 }
 
 /// The number of a refusal.

@@ -1,6 +1,7 @@
 -- From a head and a body to a response.
-use Rattle.std.proofs.Common.{◌≡◌, ℕ, Bool, List, [], ◌++◌, take, refl, sym, ap, ◌∙◌, subst, arith, Option, Some, Ok, Err, inl, inr, append_assoc, append-nil, length-append}
-use Rattle.std.specs.Prelude.{Result}
+use Rattle.std.proofs.Common.{◌≡◌, ℕ, ◌<◌, Bool, List, [], ◌++◌, length, take, refl, sym, ap, ◌∙◌, subst, arith, Option, Some, Ok, Err, inl, inr, append_assoc, append-nil, length-append}
+use Rattle.std.specs.Prelude.{Result, OnOk, IsTrue}
+use Rattle.std.proofs.lemmas.Grind.{common_steps}
 use Rattle.std.proofs.lemmas.List.{take-append-le}
 use Rattle.httparse.specs.Grammar.{ResponseHead, print_response, NeverHasResponse}
 use Rattle.uss_http_base.specs.declared.fields.Framing.{Framing}
@@ -174,3 +175,23 @@ pub received : {S : Type 0} (talks_of : S → Option (List Talk)) (open_of : S �
 received talks_of open_of s t talks answer is shows =
     let h = shows.given.told talks is in
     record { bytes = shows.all; is_end = h.is_end; told = h.told; is_answer = λ more none. shows.is_answer more (λ over. none (over.told (heard shows.all h.is_end talks) h.told)) }
+
+-- bytes before others are some where they are
+some_before : (front back : List ℕ) → 0 < length front → 0 < length (front ++ back)
+some_before front back some = omega (arith, some, length-append front back)
+
+-- a head has at least one byte
+head_has_bytes : (h : ResponseHead) → 0 < length (print_response h)
+unfolding print_response
+head_has_bytes h = grind (arith, common_steps)
+
+response_has_bytes : (all : List ℕ) (response : Response) → IsAnswerOf (all ++ []) (Ok response) → 0 < length all
+response_has_bytes all response is =
+    let head = is.has_head in
+    let text : all ≡ print_response head.tree ++ is.rest = sym (append-nil all) ∙ head.begins.spelled in
+    subst (λ (bytes : List ℕ). 0 < length bytes) (sym text) (some_before (print_response head.tree) is.rest (head_has_bytes head.tree))
+
+-- a response came over a stream that was open
+pub over_open : {S : Type 0} (talks_of : S → Option (List Talk)) (open_of : S → Option Bool) (s t : S) (was : Bool) (answer : Result Response ReadRefusal) → open_of s ≡ Some was → ShowsAnswer (λ (a b : S) (bytes : List ℕ). HeardFrom (talks_of a) (talks_of b) (open_of a) (open_of b) bytes) (λ (a : S). IsOver (talks_of a)) s t answer → OnOk answer (IsTrue was)
+over_open talks_of open_of s t was (Ok response) is shows = shows.given.over was is (response_has_bytes shows.all response (shows.is_answer [] (λ over. refl)))
+over_open talks_of open_of s t was (Err e) is shows = tt

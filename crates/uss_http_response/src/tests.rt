@@ -5,7 +5,7 @@ use uss_http_base::ReadRefusal;
 use uss_link::{Dial, MemoryDial, Reply};
 
 /// Replies and the answer of reading each: a status and a body, or the number of the refusal. `|` stands for CR LF.
-const ROWS: [(&str, u16, &str); 36] = [
+const ROWS: [(&str, u16, &str); 37] = [
     ("HTTP/1.1 200 OK|Content-Length: 5||hello", 200, "hello"),
     (
         "HTTP/1.1 200 OK|Content-Length: 5||hello and more",
@@ -63,6 +63,11 @@ const ROWS: [(&str, u16, &str); 36] = [
     ("HTTP/1.1 200 OK|Transfer-Encoding: chunked||zz|", 434, ""),
     (
         "HTTP/1.1 200 OK|Transfer-Encoding: chunked||5|hello0||",
+        434,
+        "",
+    ),
+    (
+        "HTTP/1.1 200 OK|Transfer-Encoding: chunked||5|helloX",
         434,
         "",
     ),
@@ -182,6 +187,17 @@ fn framed_responses_ask_for_no_byte_behind_them(rt: HostRuntime) -> Result<(), F
     let alloc = rt.alloc();
     for (row, wanted, body) in FRAMED {
         assert!(rt; is_read_without_more(alloc, row, wanted, body)?, "{row}");
+    }
+    Ok(())
+}
+
+#[test]
+fn refused_lengths_and_chunks_ask_for_no_byte_behind_them(rt: HostRuntime) -> Result<(), Fail> {
+    let alloc = rt.alloc();
+    for (row, wanted, body) in ROWS {
+        if wanted == 433 || wanted == 434 {
+            assert!(rt; is_read_without_more(alloc, row, wanted, body)?, "{row}");
+        }
     }
     Ok(())
 }

@@ -1,4 +1,4 @@
-use Rattle.uss_http_response.proofs.ResponseSteps.{received}
+use Rattle.uss_http_response.proofs.ResponseSteps.{received, over_open}
 use Rattle.uss_http_response.proofs.PromptSteps.{dial_prompt}
 use Rattle.uss_http_response.proofs.dials.response_from.Goals as goal
 
@@ -10,3 +10,6 @@ returns-clause-prompt g c = λ talks is. dial_prompt g.G.Dial.talks g.G.Dial.is_
 
 pub returns-clause-stream : goal.returns-clause-stream
 returns-clause-stream g c = c.take_response.ensures.answer.given.stays
+
+pub returns-clause-over : goal.returns-clause-over
+returns-clause-over g c = λ was is. over_open g.G.Dial.talks g.G.Dial.is_open c.args.dial.now c.take_response.new.stream was c.take_response.result is c.take_response.ensures.answer
