@@ -24,7 +24,7 @@ fn cancels(place: Member, value: &Value) -> Result<(u64, u64), WireRefusal>
     Ok((flight, number))
 }
 
-/// The end of a request: the numbers of its flight and of the request.
+/// The cancelling of a request: the numbers of its flight and of the request.
 pub fn read_cancels(alloc: Global, bytes: &[u8]) -> Result<(u64, u64), WireRefusal>
     ensures { Gives result (message_of spec.cancels_at bytes.now) }
 {
