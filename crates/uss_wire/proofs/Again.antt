@@ -1,18 +1,16 @@
 -- Each message that is written is read again.
-use Rattle.std.proofs.Common.{◌≡◌, ◌^◌, ℕ, ◌+◌, ◌<◌, ◌≤◌, Bool, true, false, List, [], ◌∷◌, length, Some, None, Ok, refl, sym, ap, ◌∙◌, arith, ℤ}
+use Rattle.std.proofs.Common.{◌≡◌, ℕ, ◌≤◌, true, false, List, length, Ok, refl, arith}
 use Rattle.std.specs.Prelude.{nat_le, Option}
 use Rattle.std.proofs.lemmas.Bool.Decides.{nat_tests}
-use Rattle.serde_json.specs.Data.{Data, string, depth}
+use Rattle.serde_json.specs.Data.{string, depth}
 use Rattle.serde_json.specs.Written.{has_float}
 use Rattle.uss_vol4.specs.Volume.{Volume4D, IsVolume}
 use Rattle.uss_intent.specs.declared.records.State.{State}
 use Rattle.uss_intent.specs.declared.records.Ticket.{Ticket}
-use Rattle.uss_intent.specs.declared.calls.DssAsk.{DssAsk}
-use Rattle.uss_intent.specs.declared.calls.DssAsk.TheVariants.{Query, Get, Put, Remove, TicketPut, TicketGet, TicketRemove}
+use Rattle.uss_intent.specs.declared.calls.DssAsk.TheVariants.{Query, Put, TicketPut}
 use Rattle.uss_intent.specs.Texts.{IsBase, IsOvn}
 use Rattle.uss_wire_base.specs.Names.{name}
 use Rattle.uss_wire_base.specs.declared.refusal.Member.TheVariants.{Whole, Extents, Key}
-use Rattle.uss_wire_base.specs.Instants.{is_instant}
 use Rattle.uss_wire_base.specs.Writing.{IsPlain}
 use Rattle.uss_wire_base.proofs.Again.{list_again, list_length, list_whole, list_shallow}
 use Rattle.uss_wire_volume.specs.Volumes.{volume_at}
@@ -22,7 +20,7 @@ use Rattle.uss_wire_intent.specs.Texts.{ovn_at}
 use Rattle.uss_wire_intent.specs.Writing.{ticket_json}
 use Rattle.uss_wire_intent.proofs.Again.{base_again, ovn_again, identifier_again, state_again, ticket_whole, ticket_shallow}
 use Rattle.uss_wire.specs.Messages.{query_at, put_reference_at, put_subscription_at, ticket_at, subscription_answer_at, cancels_at, sweeps_at}
-use Rattle.uss_wire.specs.Writing.{query_json, put_reference_json, put_subscription_json, ask_json, subscription_answer_json, cancels_json, sweeps_json, IsReadablePut, IsReadableTicket}
+use Rattle.uss_wire.specs.Writing.{query_json, put_reference_json, put_subscription_json, subscription_answer_json, cancels_json, sweeps_json, IsReadablePut, IsReadableTicket}
 
 le_true : (m n : ℕ) → m ≤ n → nat_le m n ≡ true
 le_true m n h = grind (arith, nat_tests)

@@ -1,19 +1,15 @@
 -- The messages: each object's members in their order, and what this profile refuses first. After the OpenAPI annex of ASTM F3548-21,
 -- but for the limits and the operator's messages, which are this project's own.
-use Rattle.std.specs.Prelude.{ℕ, ◌+◌, ◌==◌, ◌^◌, ℤ, List, [], ◌∷◌, ◌++◌, map, length, nat_le, Option, Some, None, Result, Ok, Err, if◌then◌else◌}
-use Rattle.uss_shape.specs.declared.Place.{Place}
+use Rattle.std.specs.Prelude.{ℕ, List, [], Option, Result, Ok}
 use Rattle.uss_vol4.specs.Volume.{Volume4D}
 use Rattle.uss_intent.specs.declared.records.Reference.{Reference}
-use Rattle.uss_intent.specs.declared.records.Subscriber.{Subscriber}
 use Rattle.uss_intent.specs.declared.records.Ticket.{Ticket}
 use Rattle.uss_intent.specs.declared.calls.DssAsk.{DssAsk}
 use Rattle.uss_intent.specs.declared.calls.DssAsk.TheVariants as Ask
 use Rattle.serde_json.specs.Data.{Data}
 use Rattle.uss_wire_base.specs.declared.refusal.Member.{Member}
-use Rattle.uss_wire_base.specs.declared.refusal.Member.TheVariants as Member
 use Rattle.uss_wire_base.specs.declared.refusal.WireRefusal.{WireRefusal}
-use Rattle.uss_wire_base.specs.declared.refusal.WireRefusal.TheVariants.{TooMany}
-use Rattle.uss_wire_base.specs.Reading.{◌>>=◌, Reader, object_at, without, without_true, field, field_or, natural_at, natural_below, text_at, list_at, few_at}
+use Rattle.uss_wire_base.specs.Reading.{◌>>=◌, Reader, object_at, without, without_true, field, field_or, natural_at, text_at, list_at, few_at}
 use Rattle.uss_wire_volume.specs.Volumes.{time_at, volume_at}
 use Rattle.uss_wire_intent.specs.Texts.{base_at, ovn_at, state_at, identifier_at}
 use Rattle.uss_wire_intent.specs.References.{answered_reference_at, references_at}
@@ -79,7 +75,7 @@ subscription_answer_at client area place d = do
   _ ← object_at place d
   field Member.Subscription (ticket_at client area) d
 
--- the end of a request, by the numbers of its flight and of the request
+-- the cancelling of a request, by the numbers of its flight and of the request
 unfoldable pub cancels_at : Reader (ℕ × ℕ)
 cancels_at place d = do
   _ ← object_at place d

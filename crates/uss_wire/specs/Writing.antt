@@ -1,5 +1,5 @@
 -- The messages as they are written: their members ascending by name, with what this profile fixes.
-use Rattle.std.specs.Prelude.{◌≡◌, ◌≤◌, ◌<◌, ◌^◌, ℕ, List, Bool, true, false, Option, length, codes}
+use Rattle.std.specs.Prelude.{◌≡◌, ◌≤◌, ◌<◌, ◌^◌, ℕ, List, true, false, length, codes}
 use Rattle.serde_json.specs.Data.{Data, object, member, no_members, number, unsigned, string, boolean, null}
 use Rattle.uss_vol4.specs.Volume.{Volume4D, IsVolume}
 use Rattle.uss_intent.specs.declared.records.State.{State}

@@ -1,5 +1,6 @@
-//! JSON messages: those of the OpenAPI annex of ASTM F3548-21 between suppliers and the discovery service, in this project's profile,
-//! and those of the operator.
+//! JSON messages: the calls of the discovery service and the messages of tickets, after the OpenAPI annex of ASTM F3548-21 in this
+//! project's profile; an operator's cancels and sweeps; and the readers of three of the discovery service's answers, those with
+//! references or a ticket alone. Its other answers, and references as they are written, stand in `uss_wire_answer`.
 //!
 //! Each reader gives the value that a message stands for, or the first refusal in the order of the format, and nothing else but want
 //! of memory. Each writer gives the compact text with members ascending by name; a reader gives the value back, where one could have

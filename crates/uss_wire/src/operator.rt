@@ -1,18 +1,11 @@
 ghost use Rattle.std.specs.Prelude.{◌≡◌};
 ghost use Rattle.serde_json.specs.View.{view};
-ghost use Rattle.uss_wire_base.specs.Reading.{Gives, GivesBy, field, natural_at, message_of};
+ghost use Rattle.uss_wire_base.specs.Reading.{Gives, GivesBy, message_of};
 ghost use Rattle.uss_wire.specs.Messages as spec;
 
 use serde_json::Value;
 use std::alloc::Global;
-use uss_wire_base::{Member, WireRefusal, data, member_of, natural, object};
-
-/// The whole number of a member, from 0 on.
-fn natural_of(member: Member, value: &Value) -> Result<u64, WireRefusal>
-    ensures { Gives result (field member natural_at (view value.now)) }
-{
-    natural(member, member_of(member, value)?)
-}
+use uss_wire_base::{Member, WireRefusal, data, natural_of, object};
 
 #[tactic(auto, unfolding(crate::specs::Messages::cancels_at))]
 fn cancels(place: Member, value: &Value) -> Result<(u64, u64), WireRefusal>
@@ -24,7 +17,7 @@ fn cancels(place: Member, value: &Value) -> Result<(u64, u64), WireRefusal>
     Ok((flight, number))
 }
 
-/// The end of a request: the numbers of its flight and of the request.
+/// The cancelling of a request: the numbers of its flight and of the request.
 pub fn read_cancels(alloc: Global, bytes: &[u8]) -> Result<(u64, u64), WireRefusal>
     ensures { Gives result (message_of spec.cancels_at bytes.now) }
 {

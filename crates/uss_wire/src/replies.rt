@@ -1,13 +1,13 @@
 ghost use Rattle.std.specs.Prelude.{◌≡◌};
 ghost use Rattle.serde_json.specs.View.{view};
-ghost use Rattle.uss_wire_base.specs.Reading.{Gives, field, natural_at, text_at, message_of};
+ghost use Rattle.uss_wire_base.specs.Reading.{Gives, message_of};
 ghost use Rattle.uss_wire.specs.Messages as spec;
 
 use serde_json::Value;
 use std::alloc::Global;
 use uss_intent::{Name, Reference, References, Ticket};
 use uss_vol4::Volume4;
-use uss_wire_base::{Member, WireRefusal, data, member_of, natural, object, text};
+use uss_wire_base::{Member, WireRefusal, data, member_of, natural_of, object, text};
 use uss_wire_intent::{answered_reference, base_of, references_of, ticket_of};
 use uss_wire_volume::time_of;
 
@@ -60,13 +60,6 @@ pub fn read_get_answer(alloc: Global, bytes: &[u8], client: &Name) -> Result<Ref
 {
     let value = data(alloc, bytes)?;
     get_answer(alloc, client, Member::Whole, &value)
-}
-
-/// The whole number of a member, from 0 on.
-fn natural_of(member: Member, value: &Value) -> Result<u64, WireRefusal>
-    ensures { Gives result (field member natural_at (view value.now)) }
-{
-    natural(member, member_of(member, value)?)
 }
 
 /// That a member is a text.

@@ -168,7 +168,7 @@ fn cancels(alloc: Global, flight: u64, number: u64) -> Result<Value, AllocError>
     json!(in alloc; {"flight": flight, "number": number})
 }
 
-/// The bytes of the end of a request.
+/// The bytes of the cancelling of a request.
 pub fn write_cancels(alloc: Global, flight: u64, number: u64) -> Result<Vec<u8>, AllocError>
     ensures { IfOk result (λ b. IsTextOf (spec.cancels_json flight number) b.items) }
 {

@@ -1,18 +1,23 @@
--- What decides before what: a member that the profile refuses, a list that is too long.
-use Rattle.std.proofs.Common.{◌≡◌, ◌<◌, ℕ, true, false, List, Some, None, Ok, Err, refl, ap, arith}
+-- What decides before what: a member that the profile refuses, a list that is too long; and members that no reader looks at.
+use Rattle.std.proofs.Common.{◌≡◌, ◌<◌, ◌^◌, ℕ, true, false, List, [], ◌∷◌, Some, None, Ok, Err, refl, ap, arith}
 use Rattle.std.specs.Prelude.{Option, codes, nat_le}
 use Rattle.std.proofs.lemmas.Bool.Decides.{nat_tests}
-use Rattle.serde_json.specs.Data.{Data, null, boolean, number, string, array, object, Items, Members}
+use Rattle.serde_json.specs.Data.{Data, null, boolean, number, string, array, object, Items, item, Members}
 use Rattle.serde_json.specs.Find.{get}
 use Rattle.uss_vol4.specs.Volume.{Volume4D}
+use Rattle.uss_event.specs.Pairs.{OperationalIntent}
 use Rattle.uss_wire_base.specs.Names.{name}
 use Rattle.uss_wire_base.specs.declared.refusal.Member.{Member}
-use Rattle.uss_wire_base.specs.declared.refusal.Member.TheVariants as Member
 use Rattle.uss_wire_base.specs.declared.refusal.WireRefusal.TheVariants.{NotThisProfile, TooMany}
-use Rattle.uss_wire_base.specs.Reading.{Reader, data_of, whole_of, message_of, field, list_at, items_length}
-use Rattle.uss_wire_volume.specs.Volumes.{vertex_at, space_at, volume_at}
+use Rattle.uss_wire_base.specs.Reading.{Reader, data_of, whole_of, message_of, field, optional, list_at, natural_below, text_at, items_length}
+use Rattle.uss_wire_base.specs.Writing.{AllOf}
+use Rattle.uss_wire_volume.specs.Volumes.{vertex_at, altitude_at, space_at, volume_at}
+use Rattle.uss_wire_intent.specs.Texts.{identifier_at}
 use Rattle.uss_wire_intent.specs.References.{references_at}
+use Rattle.uss_wire_answer.specs.Answers.{subscribers_at, change_answer_at, error_at}
 use Rattle.uss_wire.specs.Messages.{query_at, query_answer_at, put_reference_at, put_subscription_at}
+use Rattle.uss_wire_event.specs.Intents.{intent_at, notification_at}
+use Rattle.uss_wire_event.specs.Asks.{positions_at}
 
 -- a message is read as its value
 pub of_data : {A : Type 0} (read : Reader A) (b : List ℕ) (d : Data) → data_of b ≡ Some d → message_of read b ≡ read Member.Whole d
@@ -38,7 +43,7 @@ unfolding put_subscription_at name
 constraints_first t d has =
     held_by (λ d. put_subscription_at t Member.Whole d ≡ Err (NotThisProfile Member.NotifyForConstraints)) (codes "notify_for_constraints") d (boolean true) has (λ ms h. rw h refl)
 
-circle_in_space : (m : Member) (d x : Data) → get (codes "outline_circle") d ≡ Some x → space_at m d ≡ Err (NotThisProfile Member.OutlineCircle)
+pub circle_in_space : (m : Member) (d x : Data) → get (codes "outline_circle") d ≡ Some x → space_at m d ≡ Err (NotThisProfile Member.OutlineCircle)
 unfolding space_at name
 circle_in_space m d x has = held_by (λ d. space_at m d ≡ Err (NotThisProfile Member.OutlineCircle)) (codes "outline_circle") d x has (λ ms h. rw h refl)
 
@@ -61,6 +66,10 @@ unfolding vertex_at name
 longitude_first m d x none has =
     held_by (λ d. get (codes "lat") d ≡ None → vertex_at m d ≡ Err (NotThisProfile Member.Lng)) (codes "lng") d x has (λ ms h absent. rw (absent, h) refl) none
 
+pub altitude_first : (m : Member) (d x : Data) → get (codes "value") d ≡ Some x → altitude_at m d ≡ Err (NotThisProfile Member.Value)
+unfolding altitude_at name
+altitude_first m d x has = held_by (λ d. altitude_at m d ≡ Err (NotThisProfile Member.Value)) (codes "value") d x has (λ ms h. rw h refl)
+
 -- ---- lists that are too long
 is_more : (n limit : ℕ) → limit < n → nat_le n limit ≡ false
 is_more n limit h = grind (arith, nat_tests)
@@ -76,3 +85,37 @@ unfolding query_answer_at references_at name
 references_long client d items has more =
     held_by (λ d. query_answer_at client Member.Whole d ≡ Err (TooMany Member.OperationalIntentReferences)) (codes "operational_intent_references") d (array items) has
     (λ ms h. rw (h, is_more (items_length items) 4096 more) refl)
+
+pub subscribers_long : (client : List ℕ) (d : Data) (items : Items) → get (codes "subscribers") d ≡ Some (array items) → 8192 < items_length items → change_answer_at client Member.Whole d ≡ Err (TooMany Member.Subscribers)
+unfolding change_answer_at subscribers_at name
+subscribers_long client d items has more =
+    held_by (λ d. change_answer_at client Member.Whole d ≡ Err (TooMany Member.Subscribers)) (codes "subscribers") d (array items) has
+    (λ ms h. rw (h, is_more (items_length items) 8192 more) refl)
+
+pub missing_long : (client text : List ℕ) (d : Data) (items : Items) → field Member.Message text_at d ≡ Ok text → field Member.Refusal (natural_below (2 ^ 16)) d ≡ Ok 209 → get (codes "missing_operational_intents") d ≡ Some (array items) → 4096 < items_length items → error_at client Member.Whole d ≡ Err (TooMany Member.MissingOperationalIntents)
+unfolding error_at references_at name
+missing_long client text d items front middle has more =
+    held_by (λ d. field Member.Message text_at d ≡ Ok text → field Member.Refusal (natural_below (2 ^ 16)) d ≡ Ok 209 → error_at client Member.Whole d ≡ Err (TooMany Member.MissingOperationalIntents)) (codes "missing_operational_intents") d (array items) has
+    (λ ms h first second. rw (first, second, h, is_more (items_length items) 4096 more) refl) front middle
+
+pub subscriptions_long : (d x y : Data) (flight : ℕ) (intent : Option OperationalIntent) (items : Items) → field Member.OperationalIntentId identifier_at d ≡ Ok flight → optional Member.OperationalIntent intent_at d ≡ Ok intent → get (codes "subscriptions") d ≡ Some (array (item x (item y items))) → notification_at Member.Whole d ≡ Err (TooMany Member.Subscriptions)
+unfolding notification_at name
+subscriptions_long d x y flight intent items front middle has =
+    held_by (λ d. field Member.OperationalIntentId identifier_at d ≡ Ok flight → optional Member.OperationalIntent intent_at d ≡ Ok intent → notification_at Member.Whole d ≡ Err (TooMany Member.Subscriptions)) (codes "subscriptions") d (array (item x (item y items))) has
+    (λ ms h first second. rw (first, second, h) refl) front middle
+
+-- ---- members that no reader looks at
+abbrev pub SameAt : Members → Members → List (List ℕ) → Type 0
+SameAt ms ns names = AllOf (λ k. get k (object ms) ≡ get k (object ns)) names
+
+pub put_reference_same : (f : ℕ) (o : Option (List ℕ)) (ms ns : Members) → SameAt ms ns (codes "new_subscription" ∷ codes "extents" ∷ codes "key" ∷ codes "state" ∷ codes "uss_base_url" ∷ codes "subscription_id" ∷ []) → put_reference_at f o Member.Whole (object ms) ≡ put_reference_at f o Member.Whole (object ns)
+unfolding put_reference_at name
+put_reference_same f o ms ns h = rw (h.0, h.1.0, h.1.1.0, h.1.1.1.0, h.1.1.1.1.0, h.1.1.1.1.1.0) refl
+
+pub notification_same : (ms ns : Members) → SameAt ms ns (codes "operational_intent_id" ∷ codes "operational_intent" ∷ codes "subscriptions" ∷ []) → notification_at Member.Whole (object ms) ≡ notification_at Member.Whole (object ns)
+unfolding notification_at name
+notification_same ms ns h = rw (h.0, h.1.0, h.1.1.0) refl
+
+pub positions_same : (ms ns : Members) → SameAt ms ns (codes "flight" ∷ codes "number" ∷ codes "lat_e7" ∷ codes "lng_e7" ∷ codes "altitude_mm" ∷ codes "off_nominal_volumes" ∷ []) → positions_at Member.Whole (object ms) ≡ positions_at Member.Whole (object ns)
+unfolding positions_at name
+positions_same ms ns h = rw (h.0, h.1.0, h.1.1.0, h.1.1.1.0, h.1.1.1.1.0, h.1.1.1.1.1.0) refl

@@ -19,7 +19,7 @@ use Rattle.uss_wire_base.specs.Instants.{is_instant, is_civil, moment_of, in_ran
 use Rattle.uss_wire_base.specs.InstantText.{read_instant, civil_at}
 use Rattle.uss_wire_base.specs.Moments.{moment_at, instant_at}
 use Rattle.uss_wire_base.specs.Reading.{object_at, without, field, text_at, word_at, list_at}
-use Rattle.uss_wire_volume.specs.Volumes.{vertex_at, is_in_plane, unless_out, outline_of, polygon_at, altitude_at, time_at, space_at, is_altitude, is_moment, volume_of, volume_at}
+use Rattle.uss_wire_volume.specs.Volumes.{vertex_at, is_in_plane, unless_out, outline_of, polygon_at, altitude_at, time_at, space_at, is_altitude, volume_of, volume_at}
 use Rattle.uss_wire_again.proofs.Yields.{Yields, after, behind, tested, in_field}
 
 -- ---- instants
@@ -101,23 +101,23 @@ ordered a b h = grind (arith, ints)
 altitudes_from : (a b : ℤ) → (is_altitude a && is_altitude b) ≡ true → InAltitude a × InAltitude b
 altitudes_from a b h = grind (arith, ints)
 
-moments_from : (a b : ℤ) → (is_moment a && is_moment b) ≡ true → InTime a × InTime b
+moments_from : (a b : ℤ) → (is_instant a && is_instant b) ≡ true → InTime a × InTime b
 moments_from a b h = grind (arith, ints)
 
-volume_with : (v : Volume4D) (a b c e : Bool) → int_lt v.high v.low ≡ a → int_lt v.end v.start ≡ b → not (is_altitude v.low && is_altitude v.high) ≡ c → not (is_moment v.start && is_moment v.end) ≡ e → IsOutline v.outline → Yields IsVolume (if a then Err LowAboveHigh else (if b then Err StartAfterEnd else (if c then Err AltitudeRange else (if e then Err TimeRange else Ok v))))
+volume_with : (v : Volume4D) (a b c e : Bool) → int_lt v.high v.low ≡ a → int_lt v.end v.start ≡ b → not (is_altitude v.low && is_altitude v.high) ≡ c → not (is_instant v.start && is_instant v.end) ≡ e → IsOutline v.outline → Yields IsVolume (if a then Err LowAboveHigh else (if b then Err StartAfterEnd else (if c then Err AltitudeRange else (if e then Err TimeRange else Ok v))))
 volume_with v true b c e low times heights moments outline = tt
 volume_with v false true c e low times heights moments outline = tt
 volume_with v false false true e low times heights moments outline = tt
 volume_with v false false false true low times heights moments outline = tt
 volume_with v false false false false low times heights moments outline =
     let inside = altitudes_from v.low v.high (passed (is_altitude v.low && is_altitude v.high) heights) in
-    let within = moments_from v.start v.end (passed (is_moment v.start && is_moment v.end) moments) in
+    let within = moments_from v.start v.end (passed (is_instant v.start && is_instant v.end) moments) in
     record { outline = outline; altitudes = ordered v.low v.high low; times = ordered v.start v.end times; low = inside.0; high = inside.1; start = within.0; end = within.1 }
 
 made_given : (v : Volume4D) → IsOutline v.outline → Yields IsVolume (volume_of (record { outline = v.outline; low = v.low; high = v.high }) v.start v.end)
 unfolding volume_of
 made_given v outline =
-    volume_with v (int_lt v.high v.low) (int_lt v.end v.start) (not (is_altitude v.low && is_altitude v.high)) (not (is_moment v.start && is_moment v.end)) refl refl refl refl outline
+    volume_with v (int_lt v.high v.low) (int_lt v.end v.start) (not (is_altitude v.low && is_altitude v.high)) (not (is_instant v.start && is_instant v.end)) refl refl refl refl outline
 
 space_given : (m : Member) (d : Data) → Yields (Makes volume_of) (space_at m d)
 unfolding space_at

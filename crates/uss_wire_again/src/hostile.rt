@@ -105,7 +105,7 @@ read|{'flight':1,'number':2,'lat_e7':9223372036854775807,'lng_e7':-9223372036854
 403 off_nominal_volumes|{'flight':1,'number':2,'lat_e7':3,'lng_e7':4,'altitude_mm':5,'off_nominal_volumes':null}
 402 time_start|{'flight':1,'number':2,'lat_e7':3,'lng_e7':4,'altitude_mm':5,'off_nominal_volumes':[{'time_end':@E,'volume':@P}]}";
 
-// The end of a request.
+// The cancelling of a request.
 const CANCELS: &str = "\
 read|{'flight':1,'number':2}
 403|null

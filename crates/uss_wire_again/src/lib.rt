@@ -11,7 +11,10 @@ pub use laws::{
     answers_are_read_again, answers_show_own_ovns_alone, answers_that_were_read_are_read_again,
     calls_that_were_read_are_read_again, events_that_were_read_are_read_again,
 };
-pub use order::{long_lists_are_refused_before_their_items, what_the_profile_refuses_comes_first};
+pub use order::{
+    long_lists_are_refused_before_their_items, members_without_a_name_here_are_ignored,
+    what_the_profile_refuses_comes_first,
+};
 
 #[cfg(test)]
 mod fields;

@@ -1,6 +1,6 @@
 ghost use Rattle.std.specs.Prelude.{◌≡◌, ◌++◌, [], map, IfOk, OnOk, OnErr};
 ghost use Rattle.serde_json.specs.View.{view};
-ghost use Rattle.uss_wire_base.specs.Reading.{Gives, GivesBy, field, natural_at, list_at, few_at, message_of};
+ghost use Rattle.uss_wire_base.specs.Reading.{Gives, GivesBy, field, list_at, few_at, message_of};
 ghost use Rattle.uss_wire_intent.specs.References.{answered_reference_at};
 ghost use Rattle.uss_wire_answer.specs.Answers as spec;
 
@@ -8,7 +8,7 @@ use serde_json::Value;
 use std::alloc::{AllocError, Global};
 use uss_intent::{Base, Name, Owed, Reference, Sequence, Subscriber, TicketId};
 use uss_wire_base::{
-    Member, ReadItem, WireRefusal, data, each, few_items, items, member_of, natural, object,
+    Member, ReadItem, WireRefusal, data, each, few_items, items, member_of, natural_of, object,
 };
 use uss_wire_intent::{answered_reference, base_of, ticket_of};
 
@@ -17,12 +17,6 @@ use uss_wire_intent::{answered_reference, base_of, ticket_of};
 struct Told {
     ticket: TicketId,
     index: u64,
-}
-
-fn index_of(member: Member, value: &Value) -> Result<u64, WireRefusal>
-    ensures { Gives result (field member natural_at (view value.now)) }
-{
-    natural(member, member_of(member, value)?)
 }
 
 #[derive(Clone, Copy)]
@@ -37,7 +31,7 @@ impl ReadItem<Told> for ToldReader {
     fn read_item(&self, _: Global, place: Member, value: &Value) -> Result<Told, WireRefusal> {
         object(place, value)?;
         let ticket = ticket_of(Member::SubscriptionId, value)?;
-        let index = index_of(Member::NotificationIndex, value)?;
+        let index = natural_of(Member::NotificationIndex, value)?;
         Ok(Told { ticket, index })
     }
 }

@@ -13,8 +13,8 @@ mod writing;
 pub use instants::{InstantRefusal, read_instant, write_instant};
 pub use moments::{instant, instant_value};
 pub use reading::{
-    ReadItem, data, each, few_items, find, integer, items, member_of, natural, natural_8,
-    natural_16, natural_32, object, only_item, text, without, without_true, word,
+    ReadItem, data, each, few_items, find, integer_of, items, member_of, natural_8, natural_16,
+    natural_32, natural_of, object, only_item, text, without, without_true, word,
 };
 pub use refusal::{Member, WireRefusal};
 pub use writing::{WriteItem, list, message};

@@ -86,6 +86,20 @@ pub fn natural(member: Member, value: &Value) -> Result<u64, WireRefusal>
     value.as_u64().ok_or(WireRefusal::WrongKind(member))
 }
 
+/// The whole number of a member, signed.
+pub fn integer_of(member: Member, value: &Value) -> Result<i64, WireRefusal>
+    ensures { Gives result (spec.field member spec.integer_at (view value.now)) }
+{
+    integer(member, member_of(member, value)?)
+}
+
+/// The whole number of a member, from 0 on.
+pub fn natural_of(member: Member, value: &Value) -> Result<u64, WireRefusal>
+    ensures { Gives result (spec.field member spec.natural_at (view value.now)) }
+{
+    natural(member, member_of(member, value)?)
+}
+
 /// A whole number from 0 to 4,294,967,295.
 pub fn natural_32(member: Member, value: &Value) -> Result<u32, WireRefusal>
     ensures { result ≡ spec.natural_below (2 ^ 32) member (view value.now) }

@@ -1,6 +1,6 @@
 ghost use Rattle.std.specs.Prelude.{◌≡◌, ◌^◌};
 ghost use Rattle.serde_json.specs.View.{view};
-ghost use Rattle.uss_wire_base.specs.Reading.{Gives, GivesBy, field, integer_at, natural_at, natural_below, list_at, message_of};
+ghost use Rattle.uss_wire_base.specs.Reading.{Gives, GivesBy, field, natural_below, list_at, message_of};
 ghost use Rattle.uss_wire_event.specs.Asks as spec;
 
 use crate::volumes::{volumes_of, volumes_or_none};
@@ -9,24 +9,10 @@ use std::alloc::Global;
 use uss_event::{FlightAsk, PositionAsk, Proposal, Proposals, Wish};
 use uss_shape::Place;
 use uss_wire_base::{
-    Member, ReadItem, WireRefusal, data, each, integer, items, member_of, natural, natural_8,
-    natural_16, object, text,
+    Member, ReadItem, WireRefusal, data, each, integer_of, items, member_of, natural_8, natural_16,
+    natural_of, object, text,
 };
 use uss_wire_intent::state_of;
-
-/// The whole number of a member, from 0 on.
-fn natural_of(member: Member, value: &Value) -> Result<u64, WireRefusal>
-    ensures { Gives result (field member natural_at (view value.now)) }
-{
-    natural(member, member_of(member, value)?)
-}
-
-/// The whole number of a member.
-fn integer_of(member: Member, value: &Value) -> Result<i64, WireRefusal>
-    ensures { Gives result (field member integer_at (view value.now)) }
-{
-    integer(member, member_of(member, value)?)
-}
 
 fn priority_of(member: Member, value: &Value) -> Result<u16, WireRefusal>
     ensures { Gives result (field member (natural_below (2 ^ 16)) (view value.now)) }

@@ -1,8 +1,9 @@
-//! What suppliers tell each other of operational intents, and what an operator asks, in JSON messages: the details of an intent, the
-//! notification of a change, requests and positions.
+//! JSON messages of operational intents: what suppliers tell each other, which is the details of an intent and the notification of a
+//! change; what an operator asks, which is requests and positions; and what it is answered, which is outcomes and what was swept.
 //!
 //! Each reader gives the value that a message stands for, or the first refusal in the order of the format, and nothing else but want
-//! of memory. Each writer gives the compact text with members ascending by name; a reader gives the value back.
+//! of memory. Each writer gives the compact text with members ascending by name; a reader gives the value back, but for outcomes and
+//! what was swept, which have none.
 #![tactic(auto)]
 
 mod asks;

@@ -1,6 +1,6 @@
 ghost use Rattle.std.specs.Prelude.{◌≡◌};
 ghost use Rattle.serde_json.specs.View.{view};
-ghost use Rattle.uss_wire_base.specs.Reading.{Gives, field, optional, natural_at, one_at, message_of};
+ghost use Rattle.uss_wire_base.specs.Reading.{Gives, field, optional, one_at, message_of};
 ghost use Rattle.uss_wire_event.specs.Intents as spec;
 
 use crate::intents::intent;
@@ -9,7 +9,7 @@ use std::alloc::Global;
 use uss_event::{Note, Pair};
 use uss_intent::TicketId;
 use uss_wire_base::{
-    Member, WireRefusal, data, find, items, member_of, natural, object, only_item,
+    Member, WireRefusal, data, find, items, member_of, natural_of, object, only_item,
 };
 use uss_wire_intent::{flight_of, ticket_of};
 
@@ -49,19 +49,13 @@ fn optional_intent(
     }
 }
 
-fn index_of(member: Member, value: &Value) -> Result<u64, WireRefusal>
-    ensures { Gives result (field member natural_at (view value.now)) }
-{
-    natural(member, member_of(member, value)?)
-}
-
 #[tactic(auto, unfolding(crate::specs::Intents::told_at))]
 fn told(place: Member, value: &Value) -> Result<(TicketId, u64), WireRefusal>
     ensures { Gives result (spec.told_at place (view value.now)) }
 {
     object(place, value)?;
     let ticket = ticket_of(Member::SubscriptionId, value)?;
-    let index = index_of(Member::NotificationIndex, value)?;
+    let index = natural_of(Member::NotificationIndex, value)?;
     Ok((ticket, index))
 }
 

@@ -1,9 +1,8 @@
 -- What is written of an intent is read again.
-use Rattle.std.proofs.Common.{◌≡◌, ◌^◌, ℕ, ◌+◌, ◌<◌, ◌≤◌, Bool, true, false, List, [], ◌∷◌, Some, None, Ok, refl, sym, ap, ◌∙◌, arith, ℤ}
-use Rattle.std.specs.Prelude.{codes, bytes_eq, nat_lt, Option}
-use Rattle.std.proofs.lemmas.Bool.{cond-true, cond-false}
-use Rattle.std.proofs.lemmas.Bool.Decides.{nat_tests}
-use Rattle.serde_json.specs.Data.{Data, string, number, unsigned, depth, Members, members_depth}
+use Rattle.std.proofs.Common.{◌≡◌, ◌^◌, ℕ, ◌<◌, ◌≤◌, true, false, List, Some, None, Ok, refl, ap, arith}
+use Rattle.std.specs.Prelude.{Option}
+use Rattle.std.proofs.lemmas.Bool.{cond-true}
+use Rattle.serde_json.specs.Data.{string, depth, Members, members_depth}
 use Rattle.serde_json.specs.Written.{has_float, members_have_float}
 use Rattle.uss_intent.specs.declared.records.State.{State}
 use Rattle.uss_intent.specs.declared.records.State.TheVariants.{Accepted, Activated, Nonconforming, Contingent}
@@ -13,7 +12,7 @@ use Rattle.uss_intent.specs.States.{state_text}
 use Rattle.uss_intent.specs.Texts.{is_name, is_base, is_ovn}
 use Rattle.uss_intent.proofs.IdentifierLemmas.{identifier_is_read}
 use Rattle.uss_wire_base.specs.declared.refusal.Member.{Member}
-use Rattle.uss_wire_base.specs.declared.refusal.WireRefusal.TheVariants.{BadName, BadBase, BadOvn, WrongKind}
+use Rattle.uss_wire_base.specs.declared.refusal.WireRefusal.TheVariants.{WrongKind}
 use Rattle.uss_wire_base.specs.Reading.{some_or}
 use Rattle.uss_wire_volume.proofs.Again.{time_whole, time_shallow}
 use Rattle.uss_wire_intent.specs.Texts.{name_of, base_of, ovn_of, state_of, name_at, base_at, ovn_at, state_at, identifier_at}

@@ -1,5 +1,5 @@
 -- How references are read (OperationalIntentReference of the OpenAPI annex of ASTM F3548-21), in the order of their members.
-use Rattle.std.specs.Prelude.{ℕ, ◌^◌, List, [], Bool, Option, Some, None, Result, Ok, Err, bytes_eq, if◌then◌else◌}
+use Rattle.std.specs.Prelude.{ℕ, ◌^◌, List, Option, Some, None, Result, Ok, bytes_eq, if◌then◌else◌}
 use Rattle.serde_json.specs.Data.{Data}
 use Rattle.uss_intent.specs.declared.records.Reference.{Reference}
 use Rattle.uss_wire_base.specs.declared.refusal.Member.TheVariants as Member

@@ -1,5 +1,5 @@
 -- How references, tickets and those that are to be told are written: members ascending by name, and what this profile fixes.
-use Rattle.std.specs.Prelude.{ℕ, List, [], ◌∷◌, Bool, true, false, Option, Some, None, codes}
+use Rattle.std.specs.Prelude.{ℕ, List, true, false, Option, Some, None, codes}
 use Rattle.serde_json.specs.Data.{Data, object, member, Members, no_members, number, unsigned, string, boolean, array, no_items, item}
 use Rattle.uss_intent.specs.declared.records.Reference.{Reference}
 use Rattle.uss_intent.specs.declared.records.Subscriber.{Subscriber}

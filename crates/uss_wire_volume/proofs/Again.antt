@@ -1,8 +1,8 @@
 -- What is written of a volume is read again as the volume.
-use Rattle.std.proofs.Common.{◌≡◌, ◌^◌, ℕ, zero, suc, ◌+◌, ◌<◌, ◌≤◌, Bool, true, false, List, [], ◌∷◌, length, get_or, Ok, refl, sym, ap, ◌∙◌, arith, ℤ, pos, negsuc, neg_ℤ, ◌≤ℤ◌}
-use Rattle.std.specs.Prelude.{◌&&◌, int_le, All}
+use Rattle.std.proofs.Common.{◌≡◌, suc, ◌≤◌, true, false, List, [], ◌∷◌, Ok, refl, arith, ℤ, pos, negsuc, neg_ℤ, ◌≤ℤ◌}
+use Rattle.std.specs.Prelude.{All}
 use Rattle.std.proofs.lemmas.Int.{ints}
-use Rattle.serde_json.specs.Data.{Data, depth}
+use Rattle.serde_json.specs.Data.{depth}
 use Rattle.serde_json.specs.Written.{has_float}
 use Rattle.uss_shape.specs.declared.Place.{Place}
 use Rattle.uss_shape.specs.Plane.{InPlane}
@@ -14,7 +14,7 @@ use Rattle.uss_wire_base.specs.Writing.{IsSigned64, AllOf}
 use Rattle.uss_wire_base.proofs.Again.{integer_again, integer_whole, list_again, list_whole, list_shallow, instant_at_again}
 use Rattle.uss_wire_volume.specs.Volumes.{vertex_at, polygon_at, altitude_at, time_at, space_at, volume_at}
 use Rattle.uss_wire_volume.specs.Writing.{vertex_json, polygon_json, altitude_json, time_json, space_json, volume_json}
-use Rattle.uss_wire_volume.proofs.Made.{outline_made, volume_made, space_in}
+use Rattle.uss_wire_volume.proofs.Made.{outline_made, volume_made}
 
 -- ---- what is read again
 

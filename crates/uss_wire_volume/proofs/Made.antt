@@ -1,9 +1,9 @@
 -- When an outline and a volume are refused: the tests of the definition, from what the outline and the volume say.
-use Rattle.std.proofs.Common.{◌≡◌, ℕ, zero, suc, ◌+◌, ◌<◌, ◌≤◌, Bool, true, false, not, List, [], ◌∷◌, length, get_or, Some, None, Ok, Err, ℤ, pos, ◌≤ℤ◌, ◌<ℤ◌, refl, sym, ap, ◌∙◌, arith, lit<, ⊎_elim}
+use Rattle.std.proofs.Common.{◌≡◌, ℕ, zero, suc, ◌+◌, ◌<◌, ◌≤◌, Bool, true, false, not, List, [], ◌∷◌, length, Some, None, Ok, Err, ℤ, ◌≤ℤ◌, ◌<ℤ◌, refl, sym, ap, ◌∙◌, arith}
 use Rattle.std.proofs.lemmas.Int.{ints}
-use Rattle.std.specs.Prelude.{◌&&◌, nat_lt, int_lt, int_le, All, if◌then◌else◌, Option}
+use Rattle.std.specs.Prelude.{◌&&◌, nat_lt, int_lt, All}
 use Rattle.std.specs.List.{position_from}
-use Rattle.std.proofs.lemmas.Bool.{cond-true, cond-false, cases_Bool}
+use Rattle.std.proofs.lemmas.Bool.{cond-true, cond-false}
 use Rattle.std.proofs.lemmas.Bool.Decides.{nat_tests}
 use Rattle.uss_shape.specs.declared.Place.{Place}
 use Rattle.uss_shape.specs.Plane.{InPlane}
@@ -15,7 +15,8 @@ use Rattle.uss_vol4.specs.Refusal as vol
 use Rattle.uss_vol4.specs.declared.VolRefusal.{VolRefusal}
 use Rattle.uss_vol4.specs.declared.VolRefusal.TheVariants as Vol
 use Rattle.uss_wire_volume.specs.declared.reading.Space.{Space}
-use Rattle.uss_wire_volume.specs.Volumes.{outline_of, unless_out, outline_refusal, volume_of, volume_refusal, is_in_plane, is_altitude, is_moment}
+use Rattle.uss_wire_base.specs.Instants.{is_instant}
+use Rattle.uss_wire_volume.specs.Volumes.{outline_of, unless_out, outline_refusal, volume_of, volume_refusal, is_in_plane, is_altitude}
 
 lt_true : (m n : ℕ) → m < n → nat_lt m n ≡ true
 lt_true m n h = grind (arith, nat_tests)
@@ -41,10 +42,10 @@ altitudes_true a b h k = grind (arith, ints)
 altitude_from : (a b : ℤ) → (is_altitude a && is_altitude b) ≡ true → InAltitude a × InAltitude b
 altitude_from a b h = grind (arith, ints)
 
-moments_true : (a b : ℤ) → InTime a → InTime b → (is_moment a && is_moment b) ≡ true
+moments_true : (a b : ℤ) → InTime a → InTime b → (is_instant a && is_instant b) ≡ true
 moments_true a b h k = grind (arith, ints)
 
-moments_from : (a b : ℤ) → (is_moment a && is_moment b) ≡ true → InTime a × InTime b
+moments_from : (a b : ℤ) → (is_instant a && is_instant b) ≡ true → InTime a × InTime b
 moments_from a b h = grind (arith, ints)
 
 refused_true : (P : Type 0) (t : Bool) → (t ≡ true → P) → (P → ⊥) → not t ≡ true
@@ -92,7 +93,7 @@ unfolding volume_of
 volume_refused s start end Vol.LowAboveHigh h = rw (below_true s.high s.low h) refl
 volume_refused s start end Vol.StartAfterEnd h = rw (below_false s.high s.low h.0, below_true end start h.1) refl
 volume_refused s start end Vol.AltitudeRange h = rw (below_false s.high s.low h.0, below_false end start h.1, refused_true (InAltitude s.low × InAltitude s.high) (is_altitude s.low && is_altitude s.high) (altitude_from s.low s.high) h.2) refl
-volume_refused s start end Vol.TimeRange h = rw (below_false s.high s.low h.0, below_false end start h.1, altitudes_true s.low s.high h.2.0 h.2.1, refused_true (InTime start × InTime end) (is_moment start && is_moment end) (moments_from start end) h.3) refl
+volume_refused s start end Vol.TimeRange h = rw (below_false s.high s.low h.0, below_false end start h.1, altitudes_true s.low s.high h.2.0 h.2.1, refused_true (InTime start × InTime end) (is_instant start && is_instant end) (moments_from start end) h.3) refl
 volume_refused s start end Vol.Memory h = absurd h
 
 abbrev pub space_in : Volume4D → Space

@@ -1,6 +1,6 @@
 -- How a volume in four dimensions is read: the Volume4D of the OpenAPI annex of ASTM F3548-21 with a polygon, in whole numbers of
 -- 1e-7 degrees and mm. That profile, the limits and the order of the refusals are this project's own.
-use Rattle.std.specs.Prelude.{ℕ, List, [], ◌∷◌, Bool, not, Option, Some, None, Result, Ok, Err, ℤ, pos, neg_ℤ, nat_lt, int_lt, int_le, ◌&&◌, length, codes, if◌then◌else◌}
+use Rattle.std.specs.Prelude.{ℕ, List, Bool, not, Option, Some, None, Result, Ok, Err, ℤ, pos, neg_ℤ, nat_lt, int_lt, int_le, ◌&&◌, length, codes, if◌then◌else◌}
 use Rattle.std.specs.List.{position_from}
 use Rattle.uss_shape.specs.declared.Place.{Place}
 use Rattle.uss_wire_volume.specs.declared.reading.Space.{Space}
@@ -13,6 +13,7 @@ use Rattle.uss_wire_base.specs.declared.refusal.Member.TheVariants as Member
 use Rattle.uss_wire_base.specs.declared.refusal.WireRefusal.{WireRefusal}
 use Rattle.uss_wire_base.specs.declared.refusal.WireRefusal.TheVariants.{TooFewVertices, TooManyVertices, OutOfRange, LowAboveHigh, StartAfterEnd, AltitudeRange, TimeRange, Memory}
 use Rattle.uss_wire_base.specs.Reading.{◌>>=◌, Reader, object_at, without, field, integer_at, word_at, list_at}
+use Rattle.uss_wire_base.specs.Instants.{is_instant}
 use Rattle.uss_wire_base.specs.Moments.{instant_at}
 
 -- a vertex: a latitude and a longitude in 1e-7 degrees
@@ -91,16 +92,12 @@ space_at place d = do
 abbrev pub is_altitude : ℤ → Bool
 is_altitude z = int_le (neg_ℤ (pos 1000000)) z && int_le z (pos 100000000)
 
--- 2000-01-01 to 2200-01-01, in ns
-abbrev pub is_moment : ℤ → Bool
-is_moment z = int_le (pos 946684800000000000) z && int_le z (pos 7258118400000000000)
-
 -- the refusals of a volume, in their order
 unfoldable pub volume_of : Space → (start end : ℤ) → Result Volume4D WireRefusal
 volume_of space start end = if int_lt space.high space.low then Err LowAboveHigh
     else (if int_lt end start then Err StartAfterEnd
     else (if not (is_altitude space.low && is_altitude space.high) then Err AltitudeRange
-    else (if not (is_moment start && is_moment end) then Err TimeRange
+    else (if not (is_instant start && is_instant end) then Err TimeRange
     else Ok (record { outline = space.outline; low = space.low; high = space.high; start = start; end = end }))))
 
 -- a volume in four dimensions; its refusals come behind its members

@@ -1,5 +1,5 @@
 -- How a volume in four dimensions is written: its members ascending by name.
-use Rattle.std.specs.Prelude.{ℕ, ℤ, List, codes}
+use Rattle.std.specs.Prelude.{ℤ, List, codes}
 use Rattle.serde_json.specs.Data.{Data, object, member, no_members, number, string}
 use Rattle.serde_json.specs.Find.{of_integer}
 use Rattle.uss_shape.specs.declared.Place.{Place}

@@ -1,6 +1,6 @@
 ghost use Rattle.std.specs.Prelude.{◌≡◌, Ok, Err};
 ghost use Rattle.serde_json.specs.View.{view};
-ghost use Rattle.uss_wire_base.specs.Reading.{Gives, GivesBy, field, integer_at, word_at, list_at};
+ghost use Rattle.uss_wire_base.specs.Reading.{Gives, GivesBy, field, word_at, list_at};
 ghost use Rattle.uss_wire_volume.specs.Volumes as spec;
 
 use serde_json::Value;
@@ -8,15 +8,9 @@ use std::alloc::Global;
 use uss_shape::{Outline, Place, ShapeRefusal};
 use uss_vol4::{VolRefusal, Volume4};
 use uss_wire_base::{
-    Member, ReadItem, WireRefusal, each, instant, integer, items, member_of, object, without, word,
+    Member, ReadItem, WireRefusal, each, instant, integer_of, items, member_of, object, without,
+    word,
 };
-
-/// The whole number of a member.
-fn integer_of(member: Member, value: &Value) -> Result<i64, WireRefusal>
-    ensures { Gives result (field member integer_at (view value.now)) }
-{
-    integer(member, member_of(member, value)?)
-}
 
 /// That a member is this text.
 fn word_of(text: &str, member: Member, value: &Value) -> Result<(), WireRefusal>

@@ -1,4 +1,4 @@
-use Rattle.std.proofs.Common.{◌≡◌, Err, Ok, sym}
+use Rattle.std.proofs.Common.{sym}
 use Rattle.std.proofs.lemmas.Int.{to_z-of_z}
 use Rattle.uss_wire_volume.proofs.Made.{volume_refused, volume_made_of}
 use Rattle.uss_wire_volume.proofs.reading.made.Goals as goal

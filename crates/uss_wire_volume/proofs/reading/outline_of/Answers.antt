@@ -1,4 +1,4 @@
-use Rattle.std.proofs.Common.{◌≡◌, ◌∙◌, ap, sym, refl, Ok, Err}
+use Rattle.std.proofs.Common.{◌∙◌, ap, sym, refl, Ok, Err}
 use Rattle.uss_wire_volume.proofs.Made.{outline_refused, outline_made}
 use Rattle.uss_wire_volume.proofs.reading.outline_of.Goals as goal
 
