@@ -19,6 +19,8 @@ mod tells;
 #[cfg(test)]
 mod tests;
 #[cfg(test)]
+mod told;
+#[cfg(test)]
 mod turning;
 mod viewed;
 
