@@ -114,7 +114,7 @@ StaysKnown fault_count old (OtherOwner kept) new = IsKnown old new
 StaysKnown fault_count old (Changed n) new = IsKnown old new
 StaysKnown fault_count old (Spent count) new = ⊥
 
--- a book that was mounted again: it goes on from the entries that were known, and what was found are its records
+-- a book that was mounted again: it goes on from the entries that were known
 pub record Remounted {D : Type 0} (old new : BookView D) : Type 0 where
   pub begins : BeginsWith new.entries old.entries
   pub reopened : new.spent ≡ None

@@ -58,12 +58,14 @@ fn made<D: Disk>(alloc: Global, journal: Journal<D>, kept: Entries) -> Book<D>
     requires legal { IsLegal kept.entries }
     requires unspent { journal.spent ≡ None }
     requires untried { journal.tried ≡ None }
+    requires unread { journal.found ≡ None }
     requires records { records_of kept.entries ≡ journal.records }
     requires left { D.is_honest journal.disk → (image : List ℕ) → D.may_leave journal.disk image → StandsForBook kept.entries image }
     ensures disk { result.disk ≡ journal.disk }
     ensures entries { result.entries ≡ kept.entries }
     ensures spent { result.spent ≡ None }
     ensures tried { result.tried ≡ None }
+    ensures unread { result.found ≡ None }
 {
     Book {
         alloc,
@@ -84,11 +86,12 @@ fn owned<D: Disk>(
     requires some { kept.entries ≢ [] }
     requires unspent { journal.spent ≡ None }
     requires untried { journal.tried ≡ None }
+    requires unread { journal.found ≡ None }
     requires records { records_of kept.entries ≡ journal.records }
     requires left { D.is_honest journal.disk → (image : List ℕ) → D.may_leave journal.disk image → StandsForBook kept.entries image }
     ensures entries { IfOk result (λ b. b.entries ≡ kept.entries) }
     ensures owner { IfOk result (λ b. owner_of b.entries ≡ Some owner.now) }
-    ensures unspent { IfOk result (λ b. (b.spent ≡ None) × (b.tried ≡ None)) }
+    ensures unspent { IfOk result (λ b. (b.spent ≡ None) × (b.tried ≡ None) × (b.found ≡ None)) }
     ensures another { IfErr result (λ r. IsAnothers kept.entries owner.now r.refusal) }
     ensures disk { disk_after result ≡ journal.disk }
 {
@@ -118,7 +121,7 @@ fn begun<D: Disk>(
     ensures untouched { IfErr result (λ r. UnlessFault r.refusal (r.back ≡ journal.disk)) }
     ensures entries { IfOk result (λ b. b.entries ≡ new_book owner) }
     ensures legal { IfOk result (λ b. IsLegal b.entries) }
-    ensures unspent { IfOk result (λ b. (b.spent ≡ None) × (b.tried ≡ None)) }
+    ensures unspent { IfOk result (λ b. (b.spent ≡ None) × (b.tried ≡ None) × (b.found ≡ None)) }
     ensures count { D.fault_count journal.disk ≤ D.fault_count (disk_after result) }
     ensures calm { IfOk result (λ b. D.fault_count b.disk ≡ D.fault_count journal.disk) }
     ensures honest { D.is_honest (disk_after result) ↔ D.is_honest journal.disk }
@@ -143,7 +146,7 @@ impl<D: Disk> Book<D> {
     pub fn mount(alloc: Global, disk: D, owner: Owner) -> Result<Book<D>, BookRefusal<D>>
         requires { length owner.base ≤ 256 }
         ensures refused { IfErr result (λ r. MountRefused owner (D.fault_count disk) (D.fault_count r.back) r.refusal) }
-        ensures unspent { IfOk result (λ b. (b.spent ≡ None) × (b.tried ≡ None)) }
+        ensures unspent { IfOk result (λ b. (b.spent ≡ None) × (b.tried ≡ None) × (b.found ≡ None)) }
         ensures legal { IfOk result (λ b. IsLegal b.entries) }
         ensures owner { IfOk result (λ b. owner_of b.entries ≡ Some owner) }
         ensures count { D.fault_count disk ≤ D.fault_count (disk_after result) }

@@ -30,7 +30,7 @@ pub(crate) fn passed_on(refusal: JournalRefusal) -> BookFault
 /// Mounts the journal that the disk's file holds, and reads the entries that its records are the codings of.
 pub(crate) fn load<D: Disk>(alloc: Global, disk: D) -> Result<(Journal<D>, Entries), BookRefusal<D>>
     ensures refused { IfErr result (λ r. ViewRefused (D.fault_count disk) (D.fault_count r.back) r.refusal) }
-    ensures unspent { IfOk result (λ x. (x.0.spent ≡ None) × (x.0.tried ≡ None)) }
+    ensures unspent { IfOk result (λ x. (x.0.spent ≡ None) × (x.0.tried ≡ None) × (x.0.found ≡ None)) }
     ensures legal { IfOk result (λ x. IsLegal x.1.entries) }
     ensures records { IfOk result (λ x. records_of x.1.entries ≡ x.0.records) }
     ensures count { D.fault_count disk ≤ D.fault_count (disk_read result) }

@@ -18,8 +18,8 @@ pub enum BookFault {
     BadEntry(u64),
     /// 152: the book is this owner's.
     OtherOwner(Owner),
-    /// 154: the records are a legal book of the owner, and the one with this number is the first of the known entries' that was read
-    /// differently or is missing.
+    /// 154: the records are a legal book, and not another owner's, and the one with this number is the first of the known entries' that was
+    /// read differently or is missing.
     Changed(u64),
     /// Memory is wanting.
     Memory,

@@ -232,9 +232,9 @@ fn are_reread(rt: &impl Abort, alloc: Global) -> Result<bool, AllocError> {
     is_reread_as(rt, alloc, other, refused(143, 0))
 }
 
-// Whether a remount that finds the file empty writes nothing to it.
-fn is_left_empty(rt: &impl Abort, alloc: Global) -> Result<bool, AllocError> {
-    match turning(rt, alloc, Vec::new(alloc), 2, 0)? {
+// Whether a remount that finds so many bytes in the file writes nothing to it.
+fn is_left_so(rt: &impl Abort, alloc: Global, bytes: usize) -> Result<bool, AllocError> {
+    match turning(rt, alloc, vec![in alloc; 0u8; bytes]?, 2, 0)? {
         Some(mut book) => Ok(
             remounted(&mut book) == refused(154, 0) && book.release().writes() == 0,
         ),
@@ -244,7 +244,9 @@ fn is_left_empty(rt: &impl Abort, alloc: Global) -> Result<bool, AllocError> {
 
 #[test]
 fn a_lost_file_is_not_written(rt: HostRuntime) -> Result<(), Fail> {
-    assert!(rt; is_left_empty(&rt, rt.alloc())?);
+    for bytes in [0usize, 1, 9] {
+        assert!(rt; is_left_so(&rt, rt.alloc(), bytes)?);
+    }
     Ok(())
 }
 
@@ -254,7 +256,7 @@ fn a_book_is_read_as_no_journal(rt: HostRuntime) -> Result<(), Fail> {
     Ok(())
 }
 
-// Whether a book that is spent stays so, by the same count, when its file is read differently, and is open again when it isn't.
+// Whether a book that is spent stays so when its file is read differently, and is open again when it isn't.
 fn stays_spent<D: Disk>(
     rt: &impl Abort,
     alloc: Global,

@@ -33,7 +33,7 @@ pub(crate) fn start<D: Disk>(
     ensures entries { OnOk result (kept.new.entries ≡ new_book owner) }
     ensures legal { OnOk result (IsLegal kept.new.entries) }
     ensures records { OnOk result (records_of kept.new.entries ≡ journal.new.records) }
-    ensures unspent { OnOk result ((journal.new.spent ≡ None) × (journal.new.tried ≡ None)) }
+    ensures unspent { OnOk result ((journal.new.spent ≡ None) × (journal.new.tried ≡ None) × (journal.new.found ≡ None)) }
     ensures count { D.fault_count journal.old.disk ≤ D.fault_count journal.new.disk }
     ensures calm { OnOk result (D.fault_count journal.new.disk ≡ D.fault_count journal.old.disk) }
     ensures honest { D.is_honest journal.new.disk ↔ D.is_honest journal.old.disk }

@@ -5,8 +5,8 @@ use Rattle.uss_disk.specs.Disk.{written, Torn}
 use Rattle.uss_journal.specs.Format.{stands_for, new_journal}
 
 -- a journal: its disk; its records, the oldest first; where it is spent, its disk's count of faults when it last
--- answered a fault; and then the record that it had tried to append, if it had tried one; and the records that its file
--- was last read as again, where it hasn't taken them over and hasn't appended since
+-- answered a fault; and then the record that it had tried to append, if it had tried one; and the records that it last
+-- found when it read its file again, where it hasn't taken them over and hasn't appended since
 pub record JournalView (D : Type 0) : Type 0 where
   pub disk : D
   pub records : List (List ℕ)

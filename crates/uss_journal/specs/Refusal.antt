@@ -1,5 +1,5 @@
 -- The answers of a journal, each with its cause. This project's own.
-use Rattle.std.specs.Prelude.{◌≡◌, ℕ, ◌+◌, ◌<◌, ◌≤◌, List, [], ◌∷◌, ◌++◌, length, Some, None, Result, Ok, Err}
+use Rattle.std.specs.Prelude.{◌≡◌, ℕ, ◌+◌, ◌<◌, ◌≤◌, List, [], ◌∷◌, ◌++◌, length, Some, None, Option, Result, Ok, Err}
 use Rattle.uss_cause.specs.Cause.{Rose}
 use Rattle.uss_journal.specs.Format.{limit, used_of, stands_for, next_gate}
 use Rattle.uss_journal.specs.Journal.{JournalView}
@@ -42,6 +42,11 @@ pub record Reread {D : Type 0} (old new : JournalView D) : Type 0 where
   pub tried : new.tried ≡ old.tried
   pub read : List (List ℕ)
   pub found : new.found ≡ Some read
+
+-- No record was found, though some are known.
+pub record IsLost (records : List (List ℕ)) (found : Option (List (List ℕ))) : Type 0 where
+  pub none : found ≡ Some []
+  pub some : 0 < length records
 
 -- What was found is taken over: the journal isn't spent, on the same disk.
 pub record Adopted {D : Type 0} (old : JournalView D) (found : List (List ℕ)) (new : JournalView D) : Type 0 where

@@ -1,5 +1,5 @@
 // A journal of records, each durable once it was appended.
-ghost use Rattle.std.specs.Prelude.{◌≡◌, ◌↔◌, ◌≤◌, ◌∷◌, ◌++◌, List, ℕ, length, slice_get, Some, None, ◌⊎◌, MatchResult, MatchOption, IfOk, IfErr, IfSome, OnOk};
+ghost use Rattle.std.specs.Prelude.{◌≡◌, ◌↔◌, ◌<◌, ◌≤◌, IsTrue, ◌∷◌, ◌++◌, List, ℕ, length, slice_get, Some, None, ◌⊎◌, MatchResult, MatchOption, IfOk, IfErr, IfSome, OnOk};
 ghost use Rattle.std.specs.Option.{option_copied};
 ghost use Rattle.uss_disk.specs.Disk.{bytes_of, CrashLeaves};
 ghost use Rattle.uss_journal.specs.Format.{stands_for, used_of};
@@ -25,7 +25,7 @@ pub struct Journal<D: Disk> {
     disk: D,
     known: Known,
     spent: Option<u64>,
-    // What the file was read as again, until the journal takes it over, appends or reads it once more.
+    // What was found when the file was read again, until the journal takes it over, appends or reads it once more.
     found: Option<Known>,
 }
 
@@ -45,7 +45,7 @@ impl<D: Disk> Model for Journal<D> {
 }
 
 impl<D: Disk> Journal<D> {
-    ghost use Rattle.uss_journal.specs.Refusal.{Appended, AppendRefused, Reread, Adopted, RemountRefused, MountRefused, RefusedBy, UnlessFault, disk_after};
+    ghost use Rattle.uss_journal.specs.Refusal.{Appended, AppendRefused, Reread, Adopted, IsLost, RemountRefused, MountRefused, RefusedBy, UnlessFault, disk_after};
 
     /// Mounts the journal that the disk's file holds. Begins with a sync, and makes a new, empty journal of a file of at
     /// most nine bytes.
@@ -117,9 +117,9 @@ impl<D: Disk> Journal<D> {
         }
     }
 
-    /// Reads again what its own disk holds, as a mount does. What was found is kept beside the known records, which stay:
-    /// it can be looked at, and taken over by `adopt`. After a refusal there is none; a journal that was spent stays so, and a
-    /// fault of the disk leaves any spent.
+    /// Reads again what its own disk holds, as a mount does, but writes nothing where the file has lost the known records:
+    /// it then finds none. What was found is kept beside the known records, which stay: it can be looked at, and taken over
+    /// by `adopt`. After a refusal there is none; a journal that was spent stays so, and a fault of the disk leaves any spent.
     pub fn reread(&mut self) -> Result<(), JournalRefusal>
         ensures answer { MatchResult result (λ _. Reread self.old self.new) (λ r. RemountRefused D.fault_count self.old r self.new) }
         ensures count { D.fault_count self.old.disk ≤ D.fault_count self.new.disk }
@@ -136,8 +136,28 @@ impl<D: Disk> Journal<D> {
         ensures crash { D.is_honest self.old.disk → CrashLeaves D.moment D.left_since
             (WithOrWithout self.old.records self.old.tried) self.old.disk self.new.disk }
     {
+        let known = self.known.count();
+        self.find(known)
+    }
+
+    // Reads its own disk again, of which so many records are known to be there.
+    fn find(&mut self, known: usize) -> Result<(), JournalRefusal>
+        requires { D.is_honest self.old.disk → 0 < known → 9 < length (bytes_of (D.reads self.old.disk)) }
+        ensures answer { MatchResult result (λ _. Reread self.old self.new) (λ r. RemountRefused D.fault_count self.old r self.new) }
+        ensures count { D.fault_count self.old.disk ≤ D.fault_count self.new.disk }
+        ensures calm { OnOk result (D.fault_count self.new.disk ≡ D.fault_count self.old.disk) }
+        ensures honest { D.is_honest self.new.disk ↔ D.is_honest self.old.disk }
+        ensures found { D.is_honest self.old.disk → MatchResult result
+            (λ _. IfSome self.new.found (λ records. StandsFor records (bytes_of (D.reads self.old.disk))))
+            (λ r. RefusedBy (bytes_of (D.reads self.old.disk)) r) }
+        ensures kept { D.is_honest self.old.disk → WithOrWithout self.old.records self.old.tried (bytes_of (D.reads self.old.disk)) }
+        ensures file { D.is_honest self.old.disk → OnOk result (bytes_of (D.reads self.new.disk) ≡ mounted (bytes_of (D.reads self.old.disk))) }
+        ensures untouched { D.is_honest self.old.disk → IfErr result (λ r. UnlessFault r (D.reads self.new.disk ≡ D.reads self.old.disk)) }
+        ensures crash { D.is_honest self.old.disk → CrashLeaves D.moment D.left_since
+            (WithOrWithout self.old.records self.old.tried) self.old.disk self.new.disk }
+    {
         self.found = None;
-        match load(self.alloc, &mut self.disk, self.known.count()) {
+        match load(self.alloc, &mut self.disk, known) {
             Ok(found) => {
                 self.found = Some(found);
                 Ok(())
@@ -151,10 +171,37 @@ impl<D: Disk> Journal<D> {
         }
     }
 
-    /// Takes over what was found: its records are then the journal's, which isn't spent. Without that it stays as it is.
+    /// Takes over what was found: its records are then the journal's, which isn't spent. Where nothing was found, and where
+    /// no record was though some are known, the journal stays as it is: a file that lost its records is no journal to append
+    /// to, until it was mounted again.
     pub fn adopt(&mut self)
+        ensures disk { self.new.disk ≡ self.old.disk }
+        ensures lost { IsLost self.old.records self.old.found → self.new ≡ self.old }
+        ensures answer { (IsLost self.old.records self.old.found → ⊥) → MatchOption self.old.found (self.new ≡ self.old) (λ records. Adopted self.old records self.new) }
+        // On an honest disk whatever a crash leaves stands for what was found.
+        ensures durable { D.is_honest self.old.disk → IfSome self.old.found
+            (λ records. (image : List ℕ) → D.may_leave self.new.disk image → StandsFor records image) }
+    {
+        // What is true of the journal is brought to the proof.
+        let _ = &self.alloc;
+        if !self.is_lost() {
+            self.take_over();
+        }
+    }
+
+    // Whether no record was found, though some are known.
+    fn is_lost(&self) -> bool
+        ensures { IsTrue result ↔ IsLost self.now.records self.now.found }
+    {
+        match &self.found {
+            Some(found) => found.count() == 0 && self.known.count() > 0,
+            None => false,
+        }
+    }
+
+    // Takes over what was found, if anything was.
+    fn take_over(&mut self)
         ensures answer { MatchOption self.old.found (self.new ≡ self.old) (λ records. Adopted self.old records self.new) }
-        // On an honest disk whatever a crash leaves then stands for them.
         ensures durable { D.is_honest self.old.disk → IfSome self.old.found
             (λ records. (image : List ℕ) → D.may_leave self.new.disk image → StandsFor records image) }
     {
@@ -164,7 +211,7 @@ impl<D: Disk> Journal<D> {
         }
     }
 
-    /// Mounts again what its own disk holds. After a refusal the records are those known before; a journal that was spent
+    /// Mounts again what its own disk holds, as a mount does. After a refusal the records are those known before; a journal that was spent
     /// stays so, and a fault of the disk leaves any spent.
     pub fn remount(&mut self) -> Result<(), JournalRefusal>
         ensures answer { MatchResult result (λ _. (self.new.spent ≡ None) × (self.new.tried ≡ None))
@@ -185,8 +232,8 @@ impl<D: Disk> Journal<D> {
         ensures crash { D.is_honest self.old.disk → CrashLeaves D.moment D.left_since
             (WithOrWithout self.old.records self.old.tried) self.old.disk self.new.disk }
     {
-        self.reread()?;
-        self.adopt();
+        self.find(0)?;
+        self.take_over();
         Ok(())
     }
 

@@ -5,6 +5,8 @@ mod journal;
 mod known;
 mod law;
 mod load;
+#[cfg(test)]
+mod losing;
 mod records;
 mod refusal;
 mod scan;

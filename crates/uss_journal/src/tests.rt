@@ -1,4 +1,5 @@
 // The journal on a disk in memory of which one call fails, or whose calls stop at one of them, and on a real file.
+use crate::losing::Losing;
 use crate::{Journal, JournalRefusal};
 use std::alloc::{AllocError, Global};
 use std::fs;
@@ -81,7 +82,7 @@ fn each_call_fails_in_turn(rt: HostRuntime) -> Result<(), Fail> {
 }
 
 // How many records a journal knows, and how many it found.
-fn counts(journal: &Journal<MemoryDisk>) -> (usize, Option<usize>) {
+fn counts<D: Disk>(journal: &Journal<D>) -> (usize, Option<usize>) {
     let found = match journal.found() {
         Some(records) => Some(records.count()),
         None => None,
@@ -110,6 +111,43 @@ fn what_was_found_is_taken_over(rt: HostRuntime) -> Result<(), Fail> {
     journal.append(b"last")?;
     journal.adopt();
     assert_eq!(rt; counts(&journal), (3, None));
+    Ok(())
+}
+
+// A journal of one record whose disk loses all but so many bytes at the sync behind its mount.
+fn losing(rt: &impl Abort, alloc: Global, keeps: usize) -> Result<Journal<Losing>, AllocError> {
+    let disk = Losing::new(Vec::from_slice(alloc, ONE)?, 2, keeps);
+    match Journal::mount(alloc, disk) {
+        Ok(journal) => Ok(journal),
+        Err(_) => rt.abort(),
+    }
+}
+
+#[test]
+fn a_lost_file_is_found_without_a_write(rt: HostRuntime) -> Result<(), Fail> {
+    for keeps in [0usize, 1, 9] {
+        let mut journal = losing(&rt, rt.alloc(), keeps)?;
+        journal.reread()?;
+        assert_eq!(rt; counts(&journal), (1, Some(0)));
+        journal.adopt();
+        assert_eq!(rt; counts(&journal), (1, Some(0)));
+        assert_eq!(rt; journal.release().writes(), 0);
+    }
+    Ok(())
+}
+
+#[test]
+fn a_lost_file_is_mounted_again_as_a_new_journal(rt: HostRuntime) -> Result<(), Fail> {
+    for keeps in [0usize, 1, 9] {
+        let mut journal = losing(&rt, rt.alloc(), keeps)?;
+        journal.remount()?;
+        assert_eq!(rt; counts(&journal), (0, None));
+        journal.append(b"new")?;
+        match Journal::mount(rt.alloc(), journal.release()) {
+            Ok(journal) => assert!(rt; is_last(&journal, b"new") && journal.count() == 1),
+            Err(_) => rt.abort(),
+        }
+    }
     Ok(())
 }
 
