@@ -13,7 +13,7 @@ use Rattle.uss_journal.specs.declared.known.Known.{Known}
 use Rattle.uss_journal.proofs.Stands.{gate_low, stands_short}
 
 -- a file that stands for the same
-pub same_file : (records : List (List ℕ)) (tried : Option (List ℕ)) (a b : List ℕ) → stands_for a ≡ stands_for b → WithOrWithout records tried b → WithOrWithout records tried a
+same_file : (records : List (List ℕ)) (tried : Option (List ℕ)) (a b : List ℕ) → stands_for a ≡ stands_for b → WithOrWithout records tried b → WithOrWithout records tried a
 same_file records tried a b same (inl without) = inl (same ∙ without)
 same_file records None a b same (inr with') = absurd with'
 same_file records (Some entry) a b same (inr with') = inr (same ∙ with')
@@ -26,19 +26,6 @@ crash_known moment left_since old new may_leave records tried file left now leav
     crash_weaker moment left_since old new (λ image. may_leave image ⊎ (stands_for image ≡ stands_for file)) (WithOrWithout records tried)
     (λ image p. ⊎_elim (left image) (λ same. same_file records tried image file same (left file now)) p)
     leaves
-
--- a file that stands for known records has more than nine bytes
-pub longer : (records : List (List ℕ)) (tried : Option (List ℕ)) (file : List ℕ) → 0 < length records → WithOrWithout records tried file → 9 < length file
-longer records tried file some p = elim (leb_tells (length file) 9) [
-  | inl short ↦ absurd (lost records tried some p (stands_short file short.1))
-  | inr long ↦ long.1
-]
-  where
-    lost : (rs : List (List ℕ)) (t : Option (List ℕ)) → 0 < length rs → WithOrWithout rs t file → stands_for file ≡ Ok [] → ⊥
-    lost [] t more h none = omega (arith, more)
-    lost (r ∷ rs) t more (inl h) none = cc
-    lost (r ∷ rs) None more (inr h) none = absurd h
-    lost (r ∷ rs) (Some entry) more (inr h) none = cc
 
 -- ---- what is known stays so
 
