@@ -1,5 +1,5 @@
 -- What is known of a journal whose file is read again, and what a crash within that leaves.
-use Rattle.std.proofs.Common.{◌≡◌, ◌⊎◌, inl, inr, ⊎_elim, ℕ, ◌+◌, ◌<◌, ◌≤◌, Bool, List, [], ◌∷◌, ◌++◌, length, take, drop, get_or, Option, Some, None, Ok, cond, sym, ap, ◌∙◌, arith, take-append-drop, drop_of_length-le}
+use Rattle.std.proofs.Common.{◌≡◌, ◌⊎◌, inl, inr, ⊎_elim, ℕ, ◌+◌, ◌≤◌, Bool, List, [], ◌∷◌, ◌++◌, length, take, drop, get_or, Option, Some, None, cond, sym, ap, ◌∙◌, arith, take-append-drop, drop_of_length-le}
 use Rattle.std.proofs.lemmas.List.{take_all}
 use Rattle.std.proofs.Math.Seq.{drop-cons}
 use Rattle.std.proofs.lemmas.Bool.Decides.{leb_tells}
@@ -10,7 +10,7 @@ use Rattle.uss_journal.specs.Gates.{Gated, records_between, tried_of}
 use Rattle.uss_journal.specs.Journal.{StandsFor, WithOrWithout, mounted}
 use Rattle.uss_journal.specs.Sound.{IsSound, IsSettled, IsReady, Untouched}
 use Rattle.uss_journal.specs.declared.known.Known.{Known}
-use Rattle.uss_journal.proofs.Stands.{gate_low, stands_short}
+use Rattle.uss_journal.proofs.Stands.{gate_low}
 
 -- a file that stands for the same
 same_file : (records : List (List ℕ)) (tried : Option (List ℕ)) (a b : List ℕ) → stands_for a ≡ stands_for b → WithOrWithout records tried b → WithOrWithout records tried a

@@ -33,11 +33,11 @@ impl Losing {
 
 // Writes the bytes at a place, up to the end and past it; what lies between is zero.
 fn put(file: &mut Vec<u8>, at: usize, bytes: &[u8]) -> Result<(), AllocError> {
+    for _ in file.len()..at {
+        file.push(0)?;
+    }
     for (k, byte) in bytes.iter().enumerate() {
         let place = at.saturating_add(k);
-        while file.len() < place {
-            file.push(0)?;
-        }
         if place < file.len() {
             file[place] = *byte;
         } else {
