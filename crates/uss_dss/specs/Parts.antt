@@ -8,9 +8,11 @@ use Rattle.uss_intent.specs.declared.records.Reference.{Reference}
 use Rattle.uss_intent.specs.declared.records.State.{State}
 use Rattle.uss_intent.specs.declared.calls.DssRefusal.{DssRefusal}
 use Rattle.uss_intent.specs.declared.calls.DssRefusal.TheVariants.{BadCall, NotYours, Exists, Retired, Absent, StaleOvn, NoTicket, NotCovered, MissingKey, Full}
-use Rattle.uss_law_dss.specs.Service.{Service, has_number, recorded_of, ticket_of, is_keyed, in_key, relevant, lacking}
+use Rattle.uss_law_dss.specs.Service.{Service, recorded_of, ticket_of, in_key, relevant, lacking}
 use Rattle.uss_law_dss.specs.Refusals.{is_bad_put, is_others, is_stale_change, is_no_ticket_of, is_uncovered, is_at_last_version, shown_all, put_tests, first_of}
 use Rattle.uss_vol4.specs.Sharing.{any_shares}
+use Rattle.uss_intent.specs.States.{is_strategic}
+use Rattle.uss_intent.specs.Numbers.{is_one_of}
 
 -- of the flight
 abbrev pub flight_tests : Service → List ℕ → ℕ → Option (List ℕ) → List (Bool × DssRefusal)
@@ -18,7 +20,7 @@ flight_tests s client flight ovn =
     let r = recorded_of flight s in
     (is_others client r, NotYours)
     ∷ (is_none ovn && is_some r, Exists)
-    ∷ (has_number flight s.retired_flights, Retired)
+    ∷ (is_one_of flight s.retired_flights, Retired)
     ∷ (is_some ovn && is_none r, Absent)
     ∷ (is_stale_change r ovn, StaleOvn)
     ∷ []
@@ -32,7 +34,7 @@ ticket_tests s client extents ticket =
 abbrev pub key_tests : Service → List ℕ → ℕ → List Volume4D → List (List ℕ) → State → List (Bool × DssRefusal)
 key_tests s client flight extents key state =
     let missing = lacking key (relevant flight extents s) in
-    (is_keyed state && not (length missing == 0), MissingKey (shown_all client missing)) ∷ []
+    (is_strategic state && not (length missing == 0), MissingKey (shown_all client missing)) ∷ []
 
 -- of the room that is left
 abbrev pub room_tests : Service → ℕ → Option (List ℕ) → List (Bool × DssRefusal)
@@ -58,7 +60,7 @@ unfoldable pub ticket_refusal : Service → List ℕ → List Volume4D → ℕ �
 ticket_refusal s client extents ticket = first_of (ticket_tests s client extents ticket)
 
 unfoldable pub key_refusal : Service → List ℕ → ℕ → List Volume4D → List (List ℕ) → State → Option DssRefusal
-key_refusal s client flight extents key state = key_answer (is_keyed state) (shown_all client (filter (is_missing flight extents key) s.references))
+key_refusal s client flight extents key state = key_answer (is_strategic state) (shown_all client (filter (is_missing flight extents key) s.references))
 
 unfoldable pub room_refusal : Service → ℕ → Option (List ℕ) → Option DssRefusal
 room_refusal s flight ovn = first_of (room_tests s flight ovn)

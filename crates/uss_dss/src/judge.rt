@@ -3,13 +3,13 @@
 ghost use Rattle.std.specs.Prelude.{◌≡◌, ℕ, List, ◌==◌, ◌≤◌, ◌<◌, not, ◌&&◌, int_le, length, option_copied, is_some, is_none, IfOk, Some, None, sum_by};
 ghost use Rattle.std.specs.List.{list_any};
 ghost use Rattle.std.specs.Bool.{OnFalse};
-ghost use Rattle.uss_law_dss.specs.Service.{has_ovn, ticket_of, recorded_of, is_keyed, lies_in, lacking, relevant};
+ghost use Rattle.uss_law_dss.specs.Service.{has_ovn, ticket_of, recorded_of, lies_in, lacking, relevant};
 ghost use Rattle.uss_law_dss.specs.Refusals.{is_others, is_others_ticket, is_stale, is_stale_change, is_no_ticket_of, is_uncovered, is_cited, is_at_last_version, is_bad_put, vertex_count, refusal_of, put_tests, first_of, tests_of};
 ghost use Rattle.uss_vol4.specs.Volume.{Volume4D};
 
 use crate::Dss;
 use std::alloc::AllocError;
-use uss_intent::{DssAsk, DssRefusal, FlightId, Name, Ovn, Ovns, State, Ticket, TicketId, Volumes};
+use uss_intent::{DssAsk, DssRefusal, FlightId, Name, Ovn, Ovns, Ticket, TicketId, Volumes};
 use uss_vol4::{Box4, Volume4};
 
 impl Dss {
@@ -251,16 +251,6 @@ fn lies_in(a: &Box4, b: &Box4) -> bool
         is_within_altitude(a, b),
         is_within_time(a, b),
     )
-}
-
-/// In these states a change has to carry a key.
-pub(crate) fn is_keyed(state: State) -> bool
-    ensures { result ≡ is_keyed state }
-{
-    match state {
-        State::Accepted | State::Activated => true,
-        State::Nonconforming | State::Contingent => false,
-    }
 }
 
 /// How many vertices the volume's outline has.

@@ -8,7 +8,7 @@ ghost use Rattle.uss_dss.specs.Keys.{Finds};
 ghost use Rattle.uss_dss.specs.Parts.{flight_refusal, ticket_refusal, key_refusal, room_refusal, put_refusal, key_answer, is_missing};
 
 use crate::Dss;
-use crate::judge::{is_bad_put, is_keyed};
+use crate::judge::is_bad_put;
 use crate::key::{has_ovn_of, key_set};
 use crate::shown::shown;
 use std::alloc::{AllocError, Global};
@@ -67,7 +67,7 @@ impl Dss {
     ) -> Result<Option<DssRefusal>, AllocError>
         ensures { IfOk result (λ r. r ≡ key_refusal self.now client.now flight extents.now key.now state) }
     {
-        if !is_keyed(state) {
+        if !state.is_strategic() {
             return Ok(None);
         }
         let missing = missing(self.alloc, &self.references, client, flight, extents, key)?;

@@ -6,7 +6,8 @@
 
 ghost use Rattle.std.specs.Prelude.{◌≡◌, option_copied, slice_get, IfOk, OnOk, OnErr, IfSome};
 ghost use Rattle.std.specs.Option.{option_map};
-ghost use Rattle.uss_law_dss.specs.Service.{empty, has_number, recorded_of};
+ghost use Rattle.uss_intent.specs.Numbers.{is_one_of};
+ghost use Rattle.uss_law_dss.specs.Service.{empty, recorded_of};
 ghost use Rattle.uss_law_dss.specs.Refusals.{refusal_of};
 ghost use Rattle.uss_law_dss.specs.Step.{service_step};
 
@@ -85,14 +86,14 @@ impl Dss {
 
     /// Whether the flight's reference was removed, so that its identifier is never used again. Takes no memory.
     pub fn flight_retired(&self, flight: FlightId) -> bool
-        ensures { result ≡ has_number flight self.now.retired_flights }
+        ensures { result ≡ is_one_of flight self.now.retired_flights }
     {
         self.retired_flights.iter().any(|f| *f == flight)
     }
 
     /// Whether the ticket was removed, so that its identifier is never used again. Takes no memory.
     pub fn ticket_retired(&self, ticket: TicketId) -> bool
-        ensures { result ≡ has_number ticket self.now.retired_tickets }
+        ensures { result ≡ is_one_of ticket self.now.retired_tickets }
     {
         self.retired_tickets.iter().any(|t| *t == ticket)
     }

@@ -6,6 +6,7 @@ use Rattle.std.specs.Option.{option_and_then}
 use Rattle.std.proofs.lemmas.List.Sums.{sum_by_push}
 use Rattle.std.proofs.lemmas.List.FromFn.{length-range_with_len}
 use Rattle.uss_intent.specs.declared.records.Subscriber.{Subscriber}
+use Rattle.uss_intent.specs.Numbers.{is_one_of}
 use Rattle.uss_event.specs.declared.entries.Entry.{Entry}
 use Rattle.uss_event.specs.declared.entries.Entry.TheVariants.{Opened, TicketOpen, Pending, Held, Deciding, Done, TicketGone, Sent}
 use Rattle.uss_event.specs.declared.entries.Entry.TheVariants as Enters
@@ -13,7 +14,7 @@ use Rattle.uss_law_dss.specs.Lists.{Has}
 use Rattle.uss_law_dss.proofs.Lists.{list_any_has}
 use Rattle.uss_law_dss.proofs.Tests.{same_number, equal_number, unequal_number, neither, either, right_true, none_is}
 use Rattle.uss_law_book.specs.Lists.{Opening, Holding, Closing, openings, holdings, endings, tickets_gone}
-use Rattle.uss_law_book.specs.Readings.{opening_of, is_held, is_done, is_closed, decision_of, holding_of, ending_of, is_ticket_open, is_ticket_gone, is_one_of, owed_of, owed_at_end, is_told, untold, keeps_ticket}
+use Rattle.uss_law_book.specs.Readings.{opening_of, is_held, is_done, is_closed, decision_of, holding_of, ending_of, is_ticket_open, is_ticket_gone, owed_of, owed_at_end, is_told, untold, keeps_ticket}
 use Rattle.uss_law_book.specs.Reserve.{need}
 use Rattle.uss_law_book.specs.Legal.{IsDue, MayOpen, MayRetire, MayTell, MayFollow, IsLegal}
 use Rattle.uss_law_book.specs.Orderly.{IsOrderly}

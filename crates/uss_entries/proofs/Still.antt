@@ -3,10 +3,11 @@ use Rattle.std.proofs.Common.{ℕ, ◌+◌, ◌*◌, ◌==◌, Bool, true, false
 use Rattle.std.specs.List.{list_any, range_with_len}
 use Rattle.std.specs.Option.{option_and_then}
 use Rattle.std.proofs.lemmas.List.Folds.{list_any-append}
+use Rattle.uss_intent.specs.Numbers.{is_one_of}
 use Rattle.uss_event.specs.declared.entries.Entry.{Entry}
 use Rattle.uss_event.specs.declared.entries.Entry.TheVariants.{Sent}
 use Rattle.uss_law_book.specs.Lists.{tickets_gone}
-use Rattle.uss_law_book.specs.Readings.{is_held, is_done, is_closed, decision_of, holding_of, ending_of, is_ticket_open, is_ticket_gone, is_one_of, owed_of, is_told, untold, keeps_ticket}
+use Rattle.uss_law_book.specs.Readings.{is_held, is_done, is_closed, decision_of, holding_of, ending_of, is_ticket_open, is_ticket_gone, owed_of, is_told, untold, keeps_ticket}
 use Rattle.uss_law_book.proofs.Finds.{first_false}
 use Rattle.uss_legal.specs.Speaks.{kind_of, job_of, speaks_of, tells, decision_in, holding_in, ending_in}
 use Rattle.uss_legal.proofs.Direct.{held_by_any, done_by_any, ticket_by_any, gone_by_any, told_by_any, holding_by_find, decision_by_find, ending_by_find}

@@ -9,7 +9,8 @@ use Rattle.std.proofs.lemmas.Bool.Decides.{nat_tests, Decides-eqb}
 use Rattle.std.proofs.lemmas.List.{get_or_default}
 use Rattle.std.proofs.lemmas.List.Folds.{list_any_at, list_any_none}
 use Rattle.std.proofs.lemmas.List.Sorted.{searched, IsNonDecreasingBy-from_all_adjacent}
-use Rattle.uss_event.specs.Rules.{is_listed, ascend, is_table}
+use Rattle.uss_intent.specs.Numbers.{is_one_of}
+use Rattle.uss_event.specs.Rules.{ascend, is_table}
 
 -- the number at a place is at most the next
 at_most_the_next : (xs : List ℕ) → ascend xs ≡ true → (k d : ℕ) → k + 1 < length xs → get_or xs k d ≤ get_or xs (k + 1) d
@@ -28,7 +29,7 @@ other : (x p : ℕ) → (x < p → eqb x p ≡ false) × (p < x → eqb x p ≡ 
 other x p = (λ l. grind (arith, nat_tests), λ l. grind (arith, nat_tests))
 
 -- a search by halves finds exactly what is listed
-search_tells : (xs : List ℕ) (p : ℕ) (found : Result ℕ ℕ) → ascend xs ≡ true → IsBinarySearchResult (λ y. nat_cmp y p) xs found → is_ok found ≡ is_listed p xs
+search_tells : (xs : List ℕ) (p : ℕ) (found : Result ℕ ℕ) → ascend xs ≡ true → IsBinarySearchResult (λ y. nat_cmp y p) xs found → is_ok found ≡ is_one_of p xs
 search_tells xs p (Ok i) h s =
     let at = searched xs p (Ok i) s (never_falls xs h) in
     sym (list_any_at (λ q. eqb q p) xs i 0 at.0 ((Decides-eqb (get_or xs i 0) p).1 at.1))
@@ -45,7 +46,7 @@ search_tells xs p (Err i) h s =
     (cases_order k i) in
     sym (list_any_none (λ q. eqb q p) xs none)
 
-pub search_of_a_table : (xs : List ℕ) (p : ℕ) (found : Result ℕ ℕ) → is_table xs ≡ true → IsBinarySearchResult (λ y. nat_cmp y p) xs found → is_ok found ≡ is_listed p xs
+pub search_of_a_table : (xs : List ℕ) (p : ℕ) (found : Result ℕ ℕ) → is_table xs ≡ true → IsBinarySearchResult (λ y. nat_cmp y p) xs found → is_ok found ≡ is_one_of p xs
 search_of_a_table xs p found h s =
     let up : ascend xs ≡ true = grind (arith, nat_tests) in
     search_tells xs p found up s

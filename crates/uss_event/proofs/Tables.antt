@@ -11,7 +11,8 @@ use Rattle.std.proofs.lemmas.List.Kept.{Contains-dedup_nat, Contains-from_dedup}
 use Rattle.std.proofs.lemmas.List.Sorted.{All-permutation, list_any-IsPermutation}
 use Rattle.std.proofs.lemmas.List.Sums.{AllPass-from_list_all, list_all-from_AllPass}
 use Rattle.std.proofs.lemmas.Map.Keys.{IsStrictlyIncreasing-dedup}
-use Rattle.uss_event.specs.Rules.{is_listed, ascend, is_too_great, are_in_range, is_table}
+use Rattle.uss_intent.specs.Numbers.{is_one_of}
+use Rattle.uss_event.specs.Rules.{ascend, is_too_great, are_in_range, is_table}
 
 below_first : (x y : ℕ) (ys : List ℕ) → IsStrictlyIncreasing (x ∷ (y ∷ ys)) → x < y
 below_first x y ys h = h 0 (omega arith)
@@ -27,27 +28,27 @@ ascend-from_increasing (x ∷ (y ∷ ys)) h =
     let rest : ascend (y ∷ ys) ≡ true = ascend-from_increasing (y ∷ ys) (increasing_tail x (y ∷ ys) h) in
     grind (arith, nat_tests)
 
-listed_from_contained : (p : ℕ) (xs : List ℕ) → Contains xs p → is_listed p xs ≡ true
+listed_from_contained : (p : ℕ) (xs : List ℕ) → Contains xs p → is_one_of p xs ≡ true
 listed_from_contained p xs (k, l, e) = list_any-from_Any (λ q. eqb q p) xs (k, p, l, e, (Decides-eqb p p).1 refl)
 
-contained_from_listed : (p : ℕ) (xs : List ℕ) → is_listed p xs ≡ true → Contains xs p
+contained_from_listed : (p : ℕ) (xs : List ℕ) → is_one_of p xs ≡ true → Contains xs p
 contained_from_listed p xs h =
     let found : Any (λ q. eqb q p ≡ true) xs = Any-from_list_any (λ q. eqb q p) xs h in
     let same : found.1 ≡ p = (Decides-eqb found.1 p).0 found.4 in
     subst (λ (q : ℕ). Contains xs q) same (found.0, found.2, found.3)
 
-listed : (p : ℕ) (xs : List ℕ) → Decides (is_listed p xs) (Contains xs p)
+listed : (p : ℕ) (xs : List ℕ) → Decides (is_one_of p xs) (Contains xs p)
 listed p xs = (contained_from_listed p xs, listed_from_contained p xs)
 
 -- taking repeated ones out leaves the set as it was
-pub listed_in_dedup : (p : ℕ) (xs : List ℕ) → is_listed p (dedup eqb xs) ≡ is_listed p xs
+pub listed_in_dedup : (p : ℕ) (xs : List ℕ) → is_one_of p (dedup eqb xs) ≡ is_one_of p xs
 listed_in_dedup p xs =
-    same_from_decides (is_listed p (dedup eqb xs)) (is_listed p xs)
+    same_from_decides (is_one_of p (dedup eqb xs)) (is_one_of p xs)
     (λ h. Contains-from_dedup eqb xs p (contained_from_listed p (dedup eqb xs) h), λ h. listed_from_contained p (dedup eqb xs) (Contains-dedup_nat xs p h))
     (listed p xs)
 
 -- so does sorting
-pub listed_in_sorted : (p : ℕ) (xs ys : List ℕ) → IsPermutation xs ys → is_listed p (dedup eqb ys) ≡ is_listed p xs
+pub listed_in_sorted : (p : ℕ) (xs ys : List ℕ) → IsPermutation xs ys → is_one_of p (dedup eqb ys) ≡ is_one_of p xs
 listed_in_sorted p xs ys moved = listed_in_dedup p ys ∙ sym (list_any-IsPermutation (λ q. eqb q p) xs ys moved)
 
 in_range : (xs : List ℕ) → are_in_range xs ≡ true → All (λ q. leb q 1000 ≡ true) xs

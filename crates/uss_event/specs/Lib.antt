@@ -4,3 +4,5 @@ pub mod Pairs
 pub mod Transitions
 pub mod Verdicts
 pub mod Refusals
+pub mod Same
+pub mod Fits

@@ -3,10 +3,6 @@
 use Rattle.std.specs.Prelude.{ℕ, Bool, true, ◌&&◌, ◌==◌, nat_lt, nat_le, List, [], ◌∷◌, Option, Some, None, IsTrue, if◌then◌else◌}
 use Rattle.std.specs.List.{list_any, list_all}
 
--- the priority is one of the list
-abbrev pub is_listed : ℕ → List ℕ → Bool
-is_listed priority list = list_any (λ p. p == priority) list
-
 -- the first is less than the list's first
 abbrev pub is_below : ℕ → List ℕ → Bool
 is_below n [] = true

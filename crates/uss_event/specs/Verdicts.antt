@@ -5,19 +5,13 @@ use Rattle.std.specs.Prelude.{ℕ, Bool, true, false, not, ◌&&◌, ◌==◌, n
 use Rattle.uss_vol4.specs.Sharing.{any_shares}
 use Rattle.uss_intent.specs.declared.records.State.{State}
 use Rattle.uss_intent.specs.declared.records.State.TheVariants.{Accepted, Activated, Nonconforming, Contingent}
+use Rattle.uss_intent.specs.States.{is_strategic}
+use Rattle.uss_intent.specs.Numbers.{is_one_of}
 use Rattle.uss_event.specs.declared.rules.Verdict.{Verdict}
 use Rattle.uss_event.specs.declared.rules.Verdict.TheVariants.{Clear, EqualForbidden, HigherStands}
 use Rattle.uss_event.specs.declared.details.Candidate.{Candidate}
-use Rattle.uss_event.specs.Rules.{is_listed}
 use Rattle.uss_event.specs.Plans.{extents_of}
 use Rattle.uss_event.specs.Pairs.{OperationalIntent}
-
--- in these states conflict is looked at
-abbrev pub is_strategic : State → Bool
-is_strategic Accepted = true
-is_strategic Activated = true
-is_strategic Nonconforming = false
-is_strategic Contingent = false
 
 abbrev pub is_activated : State → Bool
 is_activated Accepted = false
@@ -37,7 +31,7 @@ is_excepted c p (Some previous) =
 
 -- both have one priority, at which conflict is forbidden
 abbrev pub forbidden : List ℕ → Candidate → OperationalIntent → Bool
-forbidden table c p = meet c p && ((c.priority == p.details.priority) && is_listed c.priority table)
+forbidden table c p = meet c p && ((c.priority == p.details.priority) && is_one_of c.priority table)
 
 -- the other has the greater priority, and there is no exception
 abbrev pub higher : Candidate → OperationalIntent → Option OperationalIntent → Bool

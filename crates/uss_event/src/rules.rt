@@ -1,6 +1,7 @@
 ghost use Rattle.std.specs.Prelude.{◌≡◌, ◌↔◌, ◌+◌, ◌<◌, ℕ, IsTrue, IfOk, IfErr, IsErrOf, length, drop, slice_index};
 ghost use Rattle.std.specs.List.{list_any};
-ghost use Rattle.uss_event.specs.Rules.{is_listed, is_below, ascend, is_table, table_from, is_too_great, are_in_range, IsTable};
+ghost use Rattle.uss_intent.specs.Numbers.{is_one_of};
+ghost use Rattle.uss_event.specs.Rules.{is_below, ascend, is_table, table_from, is_too_great, are_in_range, IsTable};
 
 use crate::DetailsRefusal;
 use std::alloc::{AllocError, Global};
@@ -80,7 +81,7 @@ fn is_any_too_great(list: &[u16]) -> bool
 fn in_order(mut priorities: Vec<u16>) -> Vec<u16>
     requires { IsTrue (are_in_range priorities.items) }
     ensures table { IsTable result.items }
-    ensures set { (p : ℕ) → is_listed p result.items ≡ is_listed p priorities.items }
+    ensures set { (p : ℕ) → is_one_of p result.items ≡ is_one_of p priorities.items }
 {
     priorities.sort_unstable();
     priorities.dedup();
@@ -106,7 +107,7 @@ impl RuleTable {
     #[tactic(auto, using(crate::proofs::Tables::in_range_without_too_great))]
     pub fn of(alloc: Global, list: &[u16]) -> Result<RuleTable, DetailsRefusal>
         ensures table { IfOk result IsTable }
-        ensures set { IfOk result (λ t. (p : ℕ) → is_listed p t ≡ is_listed p list.now) }
+        ensures set { IfOk result (λ t. (p : ℕ) → is_one_of p t ≡ is_one_of p list.now) }
         ensures range { IsErrOf result DetailsRefusal.PriorityRange ↔ IsTrue (list_any is_too_great list.now) }
         ensures refused { IfErr result IsPriorityRefusal }
     {
@@ -134,7 +135,7 @@ impl RuleTable {
 
     /// Whether conflict at this priority is forbidden. Takes no memory.
     pub fn forbids(&self, priority: u16) -> bool
-        ensures { result ≡ is_listed priority self.now }
+        ensures { result ≡ is_one_of priority self.now }
     {
         self.priorities.binary_search(&priority).is_ok()
     }

@@ -1,6 +1,7 @@
 pub mod Texts
 pub mod Identifiers
 pub mod Tags
+pub mod Numbers
 pub mod States
 pub mod Refusals
 pub mod Same

@@ -21,7 +21,17 @@ pub enum State {
 
 impl State {
     ghost use Rattle.std.specs.Prelude.{◌≡◌};
-    ghost use Rattle.uss_intent.specs.States.{state_number};
+    ghost use Rattle.uss_intent.specs.States.{state_number, is_strategic};
+
+    /// An intent in this state is kept apart from others: conflict is looked at, and a change into it has to carry a key.
+    pub fn is_strategic(self) -> bool
+        ensures { result ≡ is_strategic self }
+    {
+        match self {
+            State::Accepted | State::Activated => true,
+            State::Nonconforming | State::Contingent => false,
+        }
+    }
 
     /// The state's number, 1 to 4 in the order of their declaration.
     pub fn number(self) -> u8

@@ -1,6 +1,7 @@
 -- What a legal book is, entry by entry. This project's own.
 use Rattle.std.specs.Prelude.{ℕ, ◌+◌, ◌<◌, ◌≤◌, ◌≡◌, ◌⊎◌, Bool, true, false, List, [], ◌∷◌, ◌++◌, length, Option, Some, None, IfSome, All, IsTrue, is_some}
 use Rattle.uss_intent.specs.declared.records.State.{State}
+use Rattle.uss_intent.specs.States.{is_strategic}
 use Rattle.uss_event.specs.Plans.{is_plan}
 use Rattle.uss_event.specs.Transitions.{may_go}
 use Rattle.uss_event.specs.declared.details.Proposal.{Proposal}
@@ -12,7 +13,6 @@ use Rattle.uss_event.specs.declared.entries.Ending.TheVariants.{Conflict, Stale,
 use Rattle.uss_event.specs.declared.entries.Entry.{Entry}
 use Rattle.uss_event.specs.declared.entries.Entry.TheVariants.{Opened, TicketOpen, Pending, Held, Deciding, Done, TicketGone, Sent}
 use Rattle.uss_event.specs.declared.entries.Entry.TheVariants as Enters
-use Rattle.uss_law_dss.specs.Service.{is_keyed}
 use Rattle.uss_law_book.specs.Lists.{Opening, openings, trials}
 use Rattle.uss_law_book.specs.Readings.{opening_of, is_closed, is_open, open_job_of, last_of, has_ended, trials_of, owns, decision_of, base_of, is_put_job, is_ticket_open, is_ticket_gone, is_ticket_needed, owed_of, is_told}
 use Rattle.uss_law_book.specs.Attempts.{held_state}
@@ -81,7 +81,7 @@ pub record MayTry (before : List Entry) (job tag alternative : ℕ) (previous : 
   pub one_of : alternative < length proposals
   pub base : previous ≡ base_of opening.ask.flight before
   pub few : length key ≤ 1024
-  pub blind : IsBlind (is_keyed to) alternative key
+  pub blind : IsBlind (is_strategic to) alternative key
 
 -- an open job records one of its attempts
 pub record MayHold (before : List Entry) (job tag : ℕ) : Type 0 where

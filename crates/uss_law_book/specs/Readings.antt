@@ -11,10 +11,6 @@ use Rattle.uss_event.specs.declared.entries.Ending.{Ending}
 use Rattle.uss_event.specs.declared.entries.Ending.TheVariants.{Conflict, Stale, Cancelled, Ended}
 use Rattle.uss_law_book.specs.Lists.{Opening, Trial, Holding, Closing, openings, tickets_opened, trials, holdings, decisions, endings, tickets_gone, told}
 
--- the number is one of the list
-abbrev pub is_one_of : ℕ → List ℕ → Bool
-is_one_of n ns = list_any (λ m. m == n) ns
-
 -- a job's opening
 unfoldable pub opening_of : ℕ → List Entry → Option Opening
 opening_of job book = find (λ o. o.job == job) (openings book)

@@ -4,11 +4,12 @@ use Rattle.uss_vol4.specs.Volume.{Volume4D}
 use Rattle.uss_intent.specs.declared.records.Recorded.{Recorded}
 use Rattle.uss_intent.specs.declared.records.Ticket.{Ticket}
 use Rattle.uss_intent.specs.declared.records.Landing.{Landing}
+use Rattle.uss_intent.specs.Numbers.{is_one_of}
 use Rattle.uss_law_dss.specs.Lists.{Has}
-use Rattle.uss_law_dss.specs.Service.{Service, has_number, recorded_of, ticket_of}
+use Rattle.uss_law_dss.specs.Service.{Service, recorded_of, ticket_of}
 use Rattle.uss_law_dss.specs.Refusals.{is_cited}
 use Rattle.uss_law_dss.specs.Step.{without_flight, without_ticket, new_ticket, after_remove, after_ticket_put, after_ticket_remove}
-use Rattle.uss_law_dss.specs.Orderly.{IsOrderly, IsCovered, flight_of, id_of}
+use Rattle.uss_law_dss.specs.Orderly.{IsOrderly, IsCovered, id_of, flight_recorded}
 use Rattle.uss_law_dss.proofs.Lists.{has_filter, has_filtered, has_passed, find_has, find_none, any_false, length-filter_le}
 use Rattle.uss_law_dss.proofs.Tests.{same_number, equal_number, other_number, unequal_number, not_true}
 use Rattle.uss_law_dss.proofs.Placed.{ascend_filter, ascend_put_ticket, put_ticket_keeps, put_ticket_others, length-put_ticket}
@@ -30,11 +31,11 @@ module _ (s : Service) (client : List ℕ) (r : Recorded) (found : recorded_of r
       let u = raised_to client r.extents s.tickets c.ticket c.there in
       record { ticket = u.0; there = u.1; cited = u.2.id ∙ c.cited; manager = u.2.manager ∙ c.manager }
 
-  still_there : (l : Landing) → (has_number l.flight s.retired_flights ≡ true) ⊎ ((q : Recorded) × Has s.references q × (q.reference.flight ≡ l.flight))
-      → (has_number l.flight (s.retired_flights ++ r.reference.flight ∷ []) ≡ true) ⊎ ((q : Recorded) × Has (without_flight r.reference.flight s.references) q × (q.reference.flight ≡ l.flight))
+  still_there : (l : Landing) → (is_one_of l.flight s.retired_flights ≡ true) ⊎ ((q : Recorded) × Has s.references q × (q.reference.flight ≡ l.flight))
+      → (is_one_of l.flight (s.retired_flights ++ r.reference.flight ∷ []) ≡ true) ⊎ ((q : Recorded) × Has (without_flight r.reference.flight s.references) q × (q.reference.flight ≡ l.flight))
   still_there l (inl g) = inl (pushed_before l.flight r.reference.flight s.retired_flights g)
-  still_there l (inr q) = elim (q.0.reference.flight == r.reference.flight) as (λ b. (q.0.reference.flight == r.reference.flight) ≡ b → (has_number l.flight (s.retired_flights ++ r.reference.flight ∷ []) ≡ true) ⊎ ((q : Recorded) × Has (without_flight r.reference.flight s.references) q × (q.reference.flight ≡ l.flight))) [
-    | true ↦ λ e. inl (subst (λ (f : ℕ). has_number f (s.retired_flights ++ r.reference.flight ∷ []) ≡ true) (sym (same_number q.0.reference.flight r.reference.flight e) ∙ q.2) (pushed_in r.reference.flight s.retired_flights))
+  still_there l (inr q) = elim (q.0.reference.flight == r.reference.flight) as (λ b. (q.0.reference.flight == r.reference.flight) ≡ b → (is_one_of l.flight (s.retired_flights ++ r.reference.flight ∷ []) ≡ true) ⊎ ((q : Recorded) × Has (without_flight r.reference.flight s.references) q × (q.reference.flight ≡ l.flight))) [
+    | true ↦ λ e. inl (subst (λ (f : ℕ). is_one_of f (s.retired_flights ++ r.reference.flight ∷ []) ≡ true) (sym (same_number q.0.reference.flight r.reference.flight e) ∙ q.2) (pushed_in r.reference.flight s.retired_flights))
     | false ↦ λ e. inr (q.0, has_filtered (λ q. not (q.reference.flight == r.reference.flight)) s.references q.0 q.1 (ap not e), q.2)
   ] refl
 
@@ -45,13 +46,13 @@ module _ (s : Service) (client : List ℕ) (r : Recorded) (found : recorded_of r
       let itself : not (r.reference.flight == r.reference.flight) ≡ false = ap not (equal_number r.reference.flight r.reference.flight refl) in
       let less = length-filter_less (λ q. not (q.reference.flight == r.reference.flight)) s.references r h.0 itself in
       record {
-        references_ascend = ascend_filter flight_of (λ q. not (q.reference.flight == r.reference.flight)) s.references j.references_ascend;
+        references_ascend = ascend_filter flight_recorded (λ q. not (q.reference.flight == r.reference.flight)) s.references j.references_ascend;
         tickets_ascend = ascend_raised client r.extents s.tickets j.tickets_ascend;
         few_references = (let k = j.few_references in omega (arith, less));
         few_tickets = subst (λ n. n ≤ 8192) (sym (length-raised client r.extents s.tickets)) j.few_tickets;
         few_landings = j.few_landings;
         flights_stay_retired = λ q h. pushed_out q.reference.flight r.reference.flight s.retired_flights (j.flights_stay_retired q (was q h)) (differs q h);
-        tickets_stay_retired = λ t h. (let m = raised_from client r.extents s.tickets t h in subst (λ (n : ℕ). has_number n s.retired_tickets ≡ false) (sym m.2.id) (j.tickets_stay_retired m.0 m.1));
+        tickets_stay_retired = λ t h. (let m = raised_from client r.extents s.tickets t h in subst (λ (n : ℕ). is_one_of n s.retired_tickets ≡ false) (sym m.2.id) (j.tickets_stay_retired m.0 m.1));
         covered = covered;
         extents = λ q h. j.extents q (was q h);
         start = λ q h. j.start q (was q h);
@@ -68,7 +69,7 @@ module _ (s : Service) (client : List ℕ) (r : Recorded) (found : recorded_of r
         ends = (let k = j.ends in omega (arith, more, less));
       }
 
-module _ (s : Service) (client : List ℕ) (ticket : ℕ) (area : Volume4D) (base : List ℕ) (absent : ticket_of ticket s ≡ None) (kept : has_number ticket s.retired_tickets ≡ false) (room : length s.tickets < 8192) (j : IsOrderly s) where
+module _ (s : Service) (client : List ℕ) (ticket : ℕ) (area : Volume4D) (base : List ℕ) (absent : ticket_of ticket s ≡ None) (kept : is_one_of ticket s.retired_tickets ≡ false) (room : length s.tickets < 8192) (j : IsOrderly s) where
   fresh : (t : Ticket) → Has s.tickets t → t.id ≢ ticket
   fresh t h = other_number t.id ticket (find_none (λ t. t.id == ticket) s.tickets t absent h)
 
@@ -91,7 +92,7 @@ module _ (s : Service) (client : List ℕ) (ticket : ℕ) (area : Volume4D) (bas
         few_tickets = (let len = length-put_ticket new s.tickets in omega (arith, len, room));
         few_landings = j.few_landings;
         flights_stay_retired = j.flights_stay_retired;
-        tickets_stay_retired = λ t h. on_new {P = λ (u : Ticket). has_number u.id s.retired_tickets ≡ false} kept j.tickets_stay_retired t (put_ticket_others new s.tickets t h);
+        tickets_stay_retired = λ t h. on_new {P = λ (u : Ticket). is_one_of u.id s.retired_tickets ≡ false} kept j.tickets_stay_retired t (put_ticket_others new s.tickets t h);
         covered = cover;
         extents = j.extents;
         start = j.start;

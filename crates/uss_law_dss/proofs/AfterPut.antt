@@ -7,8 +7,9 @@ use Rattle.uss_intent.specs.declared.records.Recorded.{Recorded}
 use Rattle.uss_intent.specs.declared.records.Ticket.{Ticket}
 use Rattle.uss_intent.specs.declared.records.Landing.{Landing}
 use Rattle.uss_intent.specs.declared.records.State.{State}
+use Rattle.uss_intent.specs.Numbers.{is_one_of}
 use Rattle.uss_law_dss.specs.Lists.{Has}
-use Rattle.uss_law_dss.specs.Service.{Service, has_number, recorded_of, ticket_of, ovn_of}
+use Rattle.uss_law_dss.specs.Service.{Service, recorded_of, ticket_of, ovn_of}
 use Rattle.uss_law_dss.specs.Step.{put_recorded, old_extents, next_version, landed, landing_of, after_put}
 use Rattle.uss_law_dss.specs.Orderly.{IsOrderly, IsCovered, IsAsLanded, last_of}
 use Rattle.uss_law_dss.proofs.Lists.{has_push, has_left, find_has, find_none}
@@ -21,7 +22,7 @@ use Rattle.uss_law_dss.proofs.History.{has_numbered, numbered_once, numbered_pus
 -- what the tests of a Put told
 pub record IsAllowed (s : Service) (client : List ℕ) (flight : ℕ) (ovn : Option (List ℕ)) (extents : List Volume4D) (ticket : ℕ) : Type 0 where
   pub some_extents : 0 < length extents
-  pub not_retired : has_number flight s.retired_flights ≡ false
+  pub not_retired : is_one_of flight s.retired_flights ≡ false
   pub creates : ovn ≡ None → (recorded_of flight s ≡ None) × (length s.references < 4096)
   pub changes : (o : List ℕ) → ovn ≡ Some o → (r : Recorded) × (recorded_of flight s ≡ Some r) × (r.reference.ovn ≡ Some o) × (r.reference.version ≢ 4294967295)
   pub cites : (t : Ticket) × (ticket_of ticket s ≡ Some t) × (t.manager ≡ client)
@@ -61,9 +62,9 @@ is_changed s client flight ovn extents ticket allowed j o e =
     }
 
 -- a flight that isn't recorded and wasn't removed has no landing
-no_landing : (s : Service) (flight : ℕ) → IsOrderly s → recorded_of flight s ≡ None → has_number flight s.retired_flights ≡ false → (l : Landing) → Has s.landings l → l.flight ≡ flight → ⊥
+no_landing : (s : Service) (flight : ℕ) → IsOrderly s → recorded_of flight s ≡ None → is_one_of flight s.retired_flights ≡ false → (l : Landing) → Has s.landings l → l.flight ≡ flight → ⊥
 no_landing s flight j none kept l h e = elim (j.there l h) [
-  | inl g ↦ not_both (has_number flight s.retired_flights) (subst (λ (f : ℕ). has_number f s.retired_flights ≡ true) e g) kept
+  | inl g ↦ not_both (is_one_of flight s.retired_flights) (subst (λ (f : ℕ). is_one_of f s.retired_flights ≡ true) e g) kept
   | inr r ↦ not_both (r.0.reference.flight == flight) (equal_number r.0.reference.flight flight (r.2 ∙ e)) (find_none (λ q. q.reference.flight == flight) s.references r.0 none r.1)
 ]
 
@@ -146,10 +147,10 @@ module _ (s : Service) (client : List ℕ) (flight : ℕ) (ovn : Option (List �
       (version_is ovn refl ∙ sym (count_more flight s.landings new refl))
   versions r (inr k) = j.versions r k.0 ∙ sym (count_same r.reference.flight s.landings new (λ e. k.1 (sym e)))
 
-  still_there : (l : Landing) → (has_number l.flight s.retired_flights ≡ true) ⊎ ((r : Recorded) × Has s.references r × (r.reference.flight ≡ l.flight))
-      → (has_number l.flight s.retired_flights ≡ true) ⊎ ((r : Recorded) × Has (put_recorded made s.references) r × (r.reference.flight ≡ l.flight))
+  still_there : (l : Landing) → (is_one_of l.flight s.retired_flights ≡ true) ⊎ ((r : Recorded) × Has s.references r × (r.reference.flight ≡ l.flight))
+      → (is_one_of l.flight s.retired_flights ≡ true) ⊎ ((r : Recorded) × Has (put_recorded made s.references) r × (r.reference.flight ≡ l.flight))
   still_there l (inl g) = inl g
-  still_there l (inr r) = elim (r.0.reference.flight == flight) as (λ b. (r.0.reference.flight == flight) ≡ b → (has_number l.flight s.retired_flights ≡ true) ⊎ ((q : Recorded) × Has (put_recorded made s.references) q × (q.reference.flight ≡ l.flight))) [
+  still_there l (inr r) = elim (r.0.reference.flight == flight) as (λ b. (r.0.reference.flight == flight) ≡ b → (is_one_of l.flight s.retired_flights ≡ true) ⊎ ((q : Recorded) × Has (put_recorded made s.references) q × (q.reference.flight ≡ l.flight))) [
     | true ↦ λ e. inr (made, put_there made s.references, sym (same_number r.0.reference.flight flight e) ∙ r.2)
     | false ↦ λ e. inr (r.0, put_keeps made s.references r.0 r.1 (other_number r.0.reference.flight flight e), r.2)
   ] refl
@@ -200,8 +201,8 @@ module _ (s : Service) (client : List ℕ) (flight : ℕ) (ovn : Option (List �
         few_references = few ovn refl;
         few_tickets = subst (λ n. n ≤ 8192) (sym (length-raised client touched s.tickets)) j.few_tickets;
         few_landings = (let room = allowed.room in omega (arith, more));
-        flights_stay_retired = λ r h. on_made {P = λ (q : Recorded). has_number q.reference.flight s.retired_flights ≡ false} allowed.not_retired j.flights_stay_retired r (here r h);
-        tickets_stay_retired = λ t h. (let m = raised_from client touched s.tickets t h in subst (λ (n : ℕ). has_number n s.retired_tickets ≡ false) (sym m.2.id) (j.tickets_stay_retired m.0 m.1));
+        flights_stay_retired = λ r h. on_made {P = λ (q : Recorded). is_one_of q.reference.flight s.retired_flights ≡ false} allowed.not_retired j.flights_stay_retired r (here r h);
+        tickets_stay_retired = λ t h. (let m = raised_from client touched s.tickets t h in subst (λ (n : ℕ). is_one_of n s.retired_tickets ≡ false) (sym m.2.id) (j.tickets_stay_retired m.0 m.1));
         covered = λ r h. covered r (here r h);
         extents = λ r h. on_made {P = λ (q : Recorded). 0 < length q.extents} allowed.some_extents j.extents r (here r h);
         start = λ r h. on_made {P = λ (q : Recorded). q.reference.start ≡ (bounding_box q.extents).start} refl j.start r (here r h);

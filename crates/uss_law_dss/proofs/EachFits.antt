@@ -17,7 +17,7 @@ use Rattle.uss_intent.specs.States.{same_state}
 use Rattle.uss_law_dss.specs.Service.{Service, recorded_of, ticket_of, shown_to, reach, relevant, lacking, in_key}
 use Rattle.uss_law_dss.specs.Refusals.{shown_all, tests_of, first_of, refusal_of}
 use Rattle.uss_law_dss.specs.Step.{subscribers, found_in, after_put, after_remove, after_ticket_remove, with_recorded, with_ticket, accepted, unless_refused, service_step, old_extents}
-use Rattle.uss_law_dss.specs.Orderly.{AllAbove, Ascend, flight_of, IsOrderly}
+use Rattle.uss_law_dss.specs.Orderly.{AllAbove, Ascend, IsOrderly, flight_recorded}
 use Rattle.uss_law_dss.specs.Fits.{is_before, ascend, is_list, are_few, refusal_fits, fits}
 use Rattle.uss_law_dss.proofs.Lists.{find_has, length-map, length-filter_le}
 use Rattle.uss_law_dss.proofs.Tests.{and_true, equal_number, equal_bytes, le_test, less_test}
@@ -31,25 +31,25 @@ shown_flight client r = go (same_text r.manager client)
     go true = refl
     go false = refl
 
-before_shown : (client : List ℕ) (n : ℕ) (rs : List Recorded) → AllAbove flight_of n rs → is_before n (shown_all client rs) ≡ true
+before_shown : (client : List ℕ) (n : ℕ) (rs : List Recorded) → AllAbove flight_recorded n rs → is_before n (shown_all client rs) ≡ true
 before_shown client n [] a = refl
 before_shown client n (r ∷ rs) a = ap (nat_lt n) (shown_flight client r.reference) ∙ less_test n r.reference.flight a.0
 
-ascend_shown : (client : List ℕ) (rs : List Recorded) → Ascend flight_of rs → ascend (shown_all client rs) ≡ true
+ascend_shown : (client : List ℕ) (rs : List Recorded) → Ascend flight_recorded rs → ascend (shown_all client rs) ≡ true
 ascend_shown client [] a = refl
 ascend_shown client (r ∷ rs) a =
     and_true (is_before (shown_to client r.reference).flight (shown_all client rs)) (ascend (shown_all client rs))
     (ap (λ n. is_before n (shown_all client rs)) (shown_flight client r.reference) ∙ before_shown client r.reference.flight rs a.0)
     (ascend_shown client rs a.1)
 
-list_shown : (client : List ℕ) (rs : List Recorded) → Ascend flight_of rs → length rs ≤ 4096 → is_list (shown_all client rs) ≡ true
+list_shown : (client : List ℕ) (rs : List Recorded) → Ascend flight_recorded rs → length rs ≤ 4096 → is_list (shown_all client rs) ≡ true
 list_shown client rs a few =
     and_true (nat_le (length (shown_all client rs)) 4096) (ascend (shown_all client rs))
     (ap (λ n. nat_le n 4096) (length-map (λ r. shown_to client r.reference) rs) ∙ le_test (length rs) 4096 few)
     (ascend_shown client rs a)
 
-filtered : (client : List ℕ) (p : Recorded → Bool) (rs : List Recorded) → Ascend flight_of rs → length rs ≤ 4096 → (Ascend flight_of (filter p rs)) × (length (filter p rs) ≤ 4096)
-filtered client p rs a few = (ascend_filter flight_of p rs a, (let len = length-filter_le p rs in omega arith))
+filtered : (client : List ℕ) (p : Recorded → Bool) (rs : List Recorded) → Ascend flight_recorded rs → length rs ≤ 4096 → (Ascend flight_recorded (filter p rs)) × (length (filter p rs) ≤ 4096)
+filtered client p rs a few = (ascend_filter flight_recorded p rs a, (let len = length-filter_le p rs in omega arith))
 
 few_told : (client : List ℕ) (extents : List Volume4D) (ts : List Ticket) → length ts ≤ 8192 → are_few (subscribers client extents ts) ≡ true
 few_told client extents ts few = let len = length-subscribers client extents ts in le_test (length (subscribers client extents ts)) 8192 (omega arith)

@@ -3,7 +3,7 @@ use Rattle.std.proofs.Common.{ℕ, suc, ◌<◌, ◌≤◌, ◌+◌, ◌==◌, n
 use Rattle.uss_intent.specs.declared.records.Recorded.{Recorded}
 use Rattle.uss_intent.specs.declared.records.Ticket.{Ticket}
 use Rattle.uss_law_dss.specs.Lists.{Has}
-use Rattle.uss_law_dss.specs.Orderly.{AllAbove, Ascend, flight_of, id_of}
+use Rattle.uss_law_dss.specs.Orderly.{AllAbove, Ascend, id_of, flight_recorded}
 use Rattle.uss_law_dss.specs.Step.{put_recorded, put_ticket}
 use Rattle.uss_law_dss.proofs.Tests.{same_number, less_is, not_less, other_number}
 
@@ -45,23 +45,23 @@ ascend_map f number number' same (x ∷ xs) a =
 
 -- ---- a recorded reference in its place
 
-above_put : (n : ℕ) (r : Recorded) (xs : List Recorded) → n < flight_of r → AllAbove flight_of n xs → AllAbove flight_of n (put_recorded r xs)
+above_put : (n : ℕ) (r : Recorded) (xs : List Recorded) → n < flight_recorded r → AllAbove flight_recorded n xs → AllAbove flight_recorded n (put_recorded r xs)
 above_put n r [] l a = (l, tt)
 above_put n r (x ∷ xs) l a = go (nat_lt r.reference.flight x.reference.flight) (r.reference.flight == x.reference.flight) (above_put n r xs l a.1)
   where
-    go : (b c : Bool) → AllAbove flight_of n (put_recorded r xs) → AllAbove flight_of n (if b then r ∷ x ∷ xs else if c then r ∷ xs else x ∷ put_recorded r xs)
+    go : (b c : Bool) → AllAbove flight_recorded n (put_recorded r xs) → AllAbove flight_recorded n (if b then r ∷ x ∷ xs else if c then r ∷ xs else x ∷ put_recorded r xs)
     go true c k = (l, (a.0, a.1))
     go false true k = (l, a.1)
     go false false k = (a.0, k)
 
-pub ascend_put : (r : Recorded) (xs : List Recorded) → Ascend flight_of xs → Ascend flight_of (put_recorded r xs)
+pub ascend_put : (r : Recorded) (xs : List Recorded) → Ascend flight_recorded xs → Ascend flight_recorded (put_recorded r xs)
 ascend_put r [] a = (tt, tt)
 ascend_put r (x ∷ xs) a = go (nat_lt r.reference.flight x.reference.flight) (r.reference.flight == x.reference.flight) refl refl (ascend_put r xs a.1)
   where
-    go : (b c : Bool) → nat_lt r.reference.flight x.reference.flight ≡ b → (r.reference.flight == x.reference.flight) ≡ c → Ascend flight_of (put_recorded r xs)
-        → Ascend flight_of (if b then r ∷ x ∷ xs else if c then r ∷ xs else x ∷ put_recorded r xs)
-    go true c e f k = let l = less_is r.reference.flight x.reference.flight e in ((l, above_less flight_of r.reference.flight x.reference.flight xs (omega arith) a.0), a)
-    go false true e f k = let q = same_number r.reference.flight x.reference.flight f in (above_less flight_of r.reference.flight x.reference.flight xs (omega arith) a.0, a.1)
+    go : (b c : Bool) → nat_lt r.reference.flight x.reference.flight ≡ b → (r.reference.flight == x.reference.flight) ≡ c → Ascend flight_recorded (put_recorded r xs)
+        → Ascend flight_recorded (if b then r ∷ x ∷ xs else if c then r ∷ xs else x ∷ put_recorded r xs)
+    go true c e f k = let l = less_is r.reference.flight x.reference.flight e in ((l, above_less flight_recorded r.reference.flight x.reference.flight xs (omega arith) a.0), a)
+    go false true e f k = let q = same_number r.reference.flight x.reference.flight f in (above_less flight_recorded r.reference.flight x.reference.flight xs (omega arith) a.0, a.1)
     go false false e f k =
         let l = not_less r.reference.flight x.reference.flight e in
         let d = other_number r.reference.flight x.reference.flight f in
@@ -88,7 +88,7 @@ put_keeps r (x ∷ xs) q h d = go (nat_lt r.reference.flight x.reference.flight)
     go false false f rec (inl e) = inl e
     go false false f rec (inr k) = inr (rec k)
 
-pub put_others : (r : Recorded) (xs : List Recorded) (q : Recorded) → Ascend flight_of xs → Has (put_recorded r xs) q → (r ≡ q) ⊎ (Has xs q × (q.reference.flight ≢ r.reference.flight))
+pub put_others : (r : Recorded) (xs : List Recorded) (q : Recorded) → Ascend flight_recorded xs → Has (put_recorded r xs) q → (r ≡ q) ⊎ (Has xs q × (q.reference.flight ≢ r.reference.flight))
 put_others r [] q a h = elim h [ inl e ↦ inl e | inr n ↦ absurd n ]
 put_others r (x ∷ xs) q a h = go (nat_lt r.reference.flight x.reference.flight) (r.reference.flight == x.reference.flight) refl refl (put_others r xs q a.1) h
   where
@@ -97,9 +97,9 @@ put_others r (x ∷ xs) q a h = go (nat_lt r.reference.flight x.reference.flight
         → Has (if b then r ∷ x ∷ xs else if c then r ∷ xs else x ∷ put_recorded r xs) q → (r ≡ q) ⊎ (((x ≡ q) ⊎ Has xs q) × (q.reference.flight ≢ r.reference.flight))
     go true c e f rec (inl k) = inl k
     go true c e f rec (inr (inl k)) = inr (inl k, (let l = less_is r.reference.flight x.reference.flight e in let m = ap (λ (z : Recorded). z.reference.flight) k in omega arith))
-    go true c e f rec (inr (inr k)) = inr (inr k, (let l = less_is r.reference.flight x.reference.flight e in let m = above_has flight_of x.reference.flight xs q a.0 k in omega arith))
+    go true c e f rec (inr (inr k)) = inr (inr k, (let l = less_is r.reference.flight x.reference.flight e in let m = above_has flight_recorded x.reference.flight xs q a.0 k in omega arith))
     go false true e f rec (inl k) = inl k
-    go false true e f rec (inr k) = inr (inr k, (let l = same_number r.reference.flight x.reference.flight f in let m = above_has flight_of x.reference.flight xs q a.0 k in omega arith))
+    go false true e f rec (inr k) = inr (inr k, (let l = same_number r.reference.flight x.reference.flight f in let m = above_has flight_recorded x.reference.flight xs q a.0 k in omega arith))
     go false false e f rec (inl k) = inr (inl k, (let d = other_number r.reference.flight x.reference.flight f in let m = ap (λ (z : Recorded). z.reference.flight) k in omega arith))
     go false false e f rec (inr k) = elim (rec k) [ inl m ↦ inl m | inr m ↦ inr (inr m.0, m.1) ]
 
@@ -114,14 +114,14 @@ length-put_le r (x ∷ xs) = go (nat_lt r.reference.flight x.reference.flight) (
     go false false k = omega arith
 
 -- as many, where its flight was there
-pub length-put_same : (r : Recorded) (xs : List Recorded) (q : Recorded) → Ascend flight_of xs → Has xs q → q.reference.flight ≡ r.reference.flight → length (put_recorded r xs) ≡ length xs
+pub length-put_same : (r : Recorded) (xs : List Recorded) (q : Recorded) → Ascend flight_recorded xs → Has xs q → q.reference.flight ≡ r.reference.flight → length (put_recorded r xs) ≡ length xs
 length-put_same r [] q a h e = absurd h
 length-put_same r (x ∷ xs) q a h e = go (nat_lt r.reference.flight x.reference.flight) (r.reference.flight == x.reference.flight) refl refl (λ k. length-put_same r xs q a.1 k e) h
   where
     go : (b c : Bool) → nat_lt r.reference.flight x.reference.flight ≡ b → (r.reference.flight == x.reference.flight) ≡ c → (Has xs q → length (put_recorded r xs) ≡ length xs) → (x ≡ q) ⊎ Has xs q
         → length (if b then r ∷ x ∷ xs else if c then r ∷ xs else x ∷ put_recorded r xs) ≡ suc (length xs)
     go true c l f rec (inl k) = absurd (let m = less_is r.reference.flight x.reference.flight l in let n = ap (λ (z : Recorded). z.reference.flight) k in omega arith)
-    go true c l f rec (inr k) = absurd (let m = less_is r.reference.flight x.reference.flight l in let n = above_has flight_of x.reference.flight xs q a.0 k in omega arith)
+    go true c l f rec (inr k) = absurd (let m = less_is r.reference.flight x.reference.flight l in let n = above_has flight_recorded x.reference.flight xs q a.0 k in omega arith)
     go false true l f rec k = refl
     go false false l f rec (inl k) = absurd (other_number r.reference.flight x.reference.flight f (sym e ∙ sym (ap (λ (z : Recorded). z.reference.flight) k)))
     go false false l f rec (inr k) = ap suc (rec k)

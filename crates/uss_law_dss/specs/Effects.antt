@@ -10,8 +10,10 @@ use Rattle.uss_intent.specs.declared.calls.DssAsk.{DssAsk}
 use Rattle.uss_intent.specs.declared.calls.DssAsk.TheVariants.{Put, Remove, TicketPut, TicketRemove}
 use Rattle.uss_intent.specs.declared.calls.DssReply.{DssReply}
 use Rattle.uss_intent.specs.declared.calls.DssReply.TheVariants.{Found, Got, TicketGot, Refused}
+use Rattle.uss_intent.specs.States.{is_strategic}
+use Rattle.uss_intent.specs.Numbers.{is_one_of}
 use Rattle.uss_law_dss.specs.Lists.{Has}
-use Rattle.uss_law_dss.specs.Service.{Service, has_number, recorded_of, ticket_of, is_keyed, relevant, in_key, lies_in}
+use Rattle.uss_law_dss.specs.Service.{Service, recorded_of, ticket_of, relevant, in_key, lies_in}
 use Rattle.uss_law_dss.specs.Refusals.{vertex_count, is_cited}
 use Rattle.uss_law_dss.specs.Step.{after_put, after_remove, after_ticket_put, after_ticket_remove}
 
@@ -30,7 +32,7 @@ pub record Lands (s : Service) (client : List ℕ) (ask : DssAsk) (out : DssRepl
   pub few_extents : length extents ≤ 64
   pub few_vertices : vertex_count extents ≤ 10000
   pub few_ovns : length key ≤ 1024
-  pub not_retired : has_number flight s.retired_flights ≡ false
+  pub not_retired : is_one_of flight s.retired_flights ≡ false
   -- a creation is of a flight that isn't recorded
   pub creates : ovn ≡ None → (recorded_of flight s ≡ None) × (length s.references < 4096)
   -- a change is of the client's own reference, by its OVN
@@ -38,7 +40,7 @@ pub record Lands (s : Service) (client : List ℕ) (ask : DssAsk) (out : DssRepl
   -- the cited ticket is the client's own, and its area covers the extents
   pub cites : (t : Ticket) × (ticket_of ticket s ≡ Some t) × (t.manager ≡ client) × (lies_in (bounding_box extents) (box_of t.area) ≡ true)
   -- the key has the OVN of each relevant reference
-  pub keyed : is_keyed state ≡ true → (r : Recorded) → Has (relevant flight extents s) r → in_key key r.reference ≡ true
+  pub keyed : is_strategic state ≡ true → (r : Recorded) → Has (relevant flight extents s) r → in_key key r.reference ≡ true
   pub room : length s.landings < 9999999999999999
 
 -- the end of a reference
@@ -58,7 +60,7 @@ pub record MakesTicket (s : Service) (client : List ℕ) (ask : DssAsk) (out : D
   pub base : List ℕ
   pub is : ask ≡ TicketPut ticket area base
   pub absent : ticket_of ticket s ≡ None
-  pub not_retired : has_number ticket s.retired_tickets ≡ false
+  pub not_retired : is_one_of ticket s.retired_tickets ≡ false
   pub room : length s.tickets < 8192
   pub out_is : out ≡ after_ticket_put s client ticket area base
 

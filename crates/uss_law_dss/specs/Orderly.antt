@@ -6,8 +6,9 @@ use Rattle.uss_intent.specs.declared.records.Reference.{Reference}
 use Rattle.uss_intent.specs.declared.records.Ticket.{Ticket}
 use Rattle.uss_intent.specs.declared.records.Landing.{Landing}
 use Rattle.uss_intent.specs.Tags.{tag_of}
+use Rattle.uss_intent.specs.Numbers.{is_one_of}
 use Rattle.uss_law_dss.specs.Lists.{Has}
-use Rattle.uss_law_dss.specs.Service.{Service, has_number, ovn_of}
+use Rattle.uss_law_dss.specs.Service.{Service, ovn_of}
 
 -- all have a greater number than n
 abbrev pub AllAbove : {X : Type 0} → (X → ℕ) → ℕ → List X → Type 0
@@ -19,8 +20,8 @@ abbrev pub Ascend : {X : Type 0} → (X → ℕ) → List X → Type 0
 Ascend number [] = Unit {0}
 Ascend number (x ∷ xs) = AllAbove number (number x) xs × Ascend number xs
 
-abbrev pub flight_of : Recorded → ℕ
-flight_of r = r.reference.flight
+abbrev pub flight_recorded : Recorded → ℕ
+flight_recorded r = r.reference.flight
 
 abbrev pub id_of : Ticket → ℕ
 id_of t = t.id
@@ -55,14 +56,14 @@ pub record IsCovered (s : Service) (r : Reference) : Type 0 where
   pub manager : ticket.manager ≡ r.manager
 
 pub record IsOrderly (s : Service) : Type 0 where
-  pub references_ascend : Ascend flight_of s.references
+  pub references_ascend : Ascend flight_recorded s.references
   pub tickets_ascend : Ascend id_of s.tickets
   pub few_references : length s.references ≤ 4096
   pub few_tickets : length s.tickets ≤ 8192
   pub few_landings : length s.landings ≤ 9999999999999999
   -- what was removed isn't there
-  pub flights_stay_retired : (r : Recorded) → Has s.references r → has_number r.reference.flight s.retired_flights ≡ false
-  pub tickets_stay_retired : (t : Ticket) → Has s.tickets t → has_number t.id s.retired_tickets ≡ false
+  pub flights_stay_retired : (r : Recorded) → Has s.references r → is_one_of r.reference.flight s.retired_flights ≡ false
+  pub tickets_stay_retired : (t : Ticket) → Has s.tickets t → is_one_of t.id s.retired_tickets ≡ false
   pub covered : (r : Recorded) → Has s.references r → IsCovered s r.reference
   -- the times of a reference are the least start and the greatest end of its extents
   pub extents : (r : Recorded) → Has s.references r → 0 < length r.extents
@@ -75,7 +76,7 @@ pub record IsOrderly (s : Service) : Type 0 where
   -- an OVN belongs to one landing
   pub numbered : AreNumbered 0 s.landings
   -- a landing's flight is recorded or was removed
-  pub there : (l : Landing) → Has s.landings l → (has_number l.flight s.retired_flights ≡ true) ⊎ ((r : Recorded) × Has s.references r × (r.reference.flight ≡ l.flight))
+  pub there : (l : Landing) → Has s.landings l → (is_one_of l.flight s.retired_flights ≡ true) ⊎ ((r : Recorded) × Has s.references r × (r.reference.flight ≡ l.flight))
   -- a change took the place of a landing of its flight, which is no more recorded
   pub previous : (l : Landing) (o : List ℕ) → Has s.landings l → l.previous ≡ Some o → (m : Landing) × Has s.landings m × (m.ovn ≡ o) × (m.flight ≡ l.flight)
   pub passed : (l : Landing) (o : List ℕ) (r : Recorded) → Has s.landings l → l.previous ≡ Some o → Has s.references r → r.reference.ovn ≡ Some o → ⊥

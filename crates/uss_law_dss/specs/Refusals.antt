@@ -14,7 +14,9 @@ use Rattle.uss_intent.specs.declared.calls.DssRefusal.{DssRefusal}
 use Rattle.uss_intent.specs.declared.calls.DssRefusal.TheVariants.{BadCall, NotYours, Exists, Retired, Absent, StaleOvn, NoTicket, NotCovered, MissingKey, TicketInUse, Full}
 use Rattle.uss_intent.specs.Refusals.{refusal_number}
 use Rattle.uss_intent.specs.Same.{same_text}
-use Rattle.uss_law_dss.specs.Service.{Service, has_number, recorded_of, ticket_of, has_ovn, is_keyed, shown_to, relevant, lacking, lies_in}
+use Rattle.uss_intent.specs.States.{is_strategic}
+use Rattle.uss_intent.specs.Numbers.{is_one_of}
+use Rattle.uss_law_dss.specs.Service.{Service, recorded_of, ticket_of, has_ovn, shown_to, relevant, lacking, lies_in}
 
 -- how many vertices the volumes have together
 abbrev pub vertex_count : List Volume4D → ℕ
@@ -76,12 +78,12 @@ put_tests s client flight ovn extents key state ticket =
     (is_bad_put extents key, BadCall)
     ∷ (is_others client r, NotYours)
     ∷ (is_none ovn && is_some r, Exists)
-    ∷ (has_number flight s.retired_flights, Retired)
+    ∷ (is_one_of flight s.retired_flights, Retired)
     ∷ (is_some ovn && is_none r, Absent)
     ∷ (is_stale_change r ovn, StaleOvn)
     ∷ (is_no_ticket_of client t, NoTicket)
     ∷ (is_uncovered t extents, NotCovered)
-    ∷ (is_keyed state && not (length missing == 0), MissingKey (shown_all client missing))
+    ∷ (is_strategic state && not (length missing == 0), MissingKey (shown_all client missing))
     ∷ (is_none ovn && nat_le 4096 (length s.references), Full 4096)
     ∷ (is_at_last_version r, Full 4294967295)
     ∷ (nat_le 9999999999999999 (length s.landings), Full 9999999999999999)
@@ -91,14 +93,14 @@ put_tests s client flight ovn extents key state ticket =
 abbrev pub tests_of : Service → List ℕ → DssAsk → List (Bool × DssRefusal)
 tests_of s client (Query area) = []
 tests_of s client (Get flight) =
-    (has_number flight s.retired_flights, Retired)
+    (is_one_of flight s.retired_flights, Retired)
     ∷ (is_none (recorded_of flight s), Absent)
     ∷ []
 tests_of s client (Put flight ovn extents key state base ticket) = put_tests s client flight ovn extents key state ticket
 tests_of s client (Remove flight ovn) =
     let r = recorded_of flight s in
     (is_others client r, NotYours)
-    ∷ (has_number flight s.retired_flights, Retired)
+    ∷ (is_one_of flight s.retired_flights, Retired)
     ∷ (is_none r, Absent)
     ∷ (is_stale r ovn, StaleOvn)
     ∷ []
@@ -106,19 +108,19 @@ tests_of s client (TicketPut ticket area base) =
     let t = ticket_of ticket s in
     (is_others_ticket client t, NotYours)
     ∷ (is_some t, Exists)
-    ∷ (has_number ticket s.retired_tickets, Retired)
+    ∷ (is_one_of ticket s.retired_tickets, Retired)
     ∷ (nat_le 8192 (length s.tickets), Full 8192)
     ∷ []
 tests_of s client (TicketGet ticket) =
     let t = ticket_of ticket s in
     (is_others_ticket client t, NotYours)
-    ∷ (has_number ticket s.retired_tickets, Retired)
+    ∷ (is_one_of ticket s.retired_tickets, Retired)
     ∷ (is_none t, Absent)
     ∷ []
 tests_of s client (TicketRemove ticket version) =
     let t = ticket_of ticket s in
     (is_others_ticket client t, NotYours)
-    ∷ (has_number ticket s.retired_tickets, Retired)
+    ∷ (is_one_of ticket s.retired_tickets, Retired)
     ∷ (is_none t, Absent)
     ∷ (not (version == 1), StaleOvn)
     ∷ (is_cited ticket s.references, TicketInUse)

@@ -27,10 +27,6 @@ pub record Service : Type 0 where
 abbrev pub empty : Service
 empty = record { references = []; tickets = []; retired_flights = []; retired_tickets = []; landings = [] }
 
--- the identifier is among these
-abbrev pub has_number : ℕ → List ℕ → Bool
-has_number n ns = list_any (λ m. m == n) ns
-
 -- the recorded reference of a flight
 abbrev pub recorded_of : ℕ → Service → Option Recorded
 recorded_of flight s = find (λ r. r.reference.flight == flight) s.references
@@ -52,13 +48,6 @@ ovn_of n = codes "ovn-" ++ digits 16 n
 abbrev pub has_ovn : Option (List ℕ) → List ℕ → Bool
 has_ovn None ovn = false
 has_ovn (Some o) ovn = same_text o ovn
-
--- in these states a change has to carry a key
-abbrev pub is_keyed : State → Bool
-is_keyed Accepted = true
-is_keyed Activated = true
-is_keyed Nonconforming = false
-is_keyed Contingent = false
 
 -- the reference as it is shown to a client: its OVN is shown to its manager alone
 abbrev pub shown_to : List ℕ → Reference → Reference

@@ -134,22 +134,25 @@ key_is_clear = λ a f k o g ovn h. clear_for a (some_same keyed_attempt a (sym k
 pub served : MayStep ticket_book [] now (Comes.Peer details_of_other (Peers.Served other_pair)) (Some keyed) (sends keyed_put) Says.Nothing (Heard other_pair ∷ [])
 served =
     record {
-      owner = owner;
-      owns_book = refl;
-      records = each_one (OfDss (RecordsAreDue owner keyed_book)) _ puts_keyed;
+      acts =
+          record {
+            owner = owner;
+            owns_book = refl;
+            records = each_one (OfDss (RecordsAreDue owner keyed_book)) _ puts_keyed;
+            pair = tt;
+            notes = each_one (OfPeer (NotesAreHeld keyed_book)) _ tt;
+            held = tt;
+            removals = tt;
+            tickets = tt;
+            ticket_calls = each_one (OfDss (TicketsAreDue owner keyed_book)) _ tt;
+            ticket_removals = each_one (OfDss (RemovalsAreDue owner keyed_book)) _ tt;
+            legal = keyed_follows;
+            final = tt;
+            cause = tt;
+            goes_on = λ e. inr refl;
+          };
       keys = key_is_clear;
-      pair = tt;
-      notes = each_one (OfPeer (NotesAreHeld keyed_book)) _ tt;
-      held = tt;
-      removals = tt;
-      tickets = tt;
-      ticket_calls = each_one (OfDss (TicketsAreDue owner keyed_book)) _ tt;
-      ticket_removals = each_one (OfDss (RemovalsAreDue owner keyed_book)) _ tt;
-      legal = keyed_follows;
-      final = tt;
       hears = inr refl;
-      cause = tt;
-      goes_on = λ e. inr refl;
     }
 
 -- the pair that is held is said
@@ -160,22 +163,25 @@ is_held_now = refl
 pub serves : MayStep held_book [] now (Comes.Details (codes "uss2") flight) None [] (Says.Pair (Some held_pair)) []
 serves =
     record {
-      owner = owner;
-      owns_book = refl;
-      records = none_sent (OfDss (RecordsAreDue owner held_book));
+      acts =
+          record {
+            owner = owner;
+            owns_book = refl;
+            records = none_sent (OfDss (RecordsAreDue owner held_book));
+            pair = record { flight = 1; is = is_held_now };
+            notes = none_sent (OfPeer (NotesAreHeld held_book));
+            held = tt;
+            removals = tt;
+            tickets = tt;
+            ticket_calls = none_sent (OfDss (TicketsAreDue owner held_book));
+            ticket_removals = none_sent (OfDss (RemovalsAreDue owner held_book));
+            legal = tt;
+            final = tt;
+            cause = tt;
+            goes_on = λ e. inl refl;
+          };
       keys = tt;
-      pair = record { flight = 1; is = is_held_now };
-      notes = none_sent (OfPeer (NotesAreHeld held_book));
-      held = tt;
-      removals = tt;
-      tickets = tt;
-      ticket_calls = none_sent (OfDss (TicketsAreDue owner held_book));
-      ticket_removals = none_sent (OfDss (RemovalsAreDue owner held_book));
-      legal = tt;
-      final = tt;
       hears = inl refl;
-      cause = tt;
-      goes_on = λ e. inl refl;
     }
 
 -- the end of a flight
@@ -203,22 +209,25 @@ removes = record { opening = record { job = 2; moment = now; ask = end_ask }; ov
 pub ends : MayStep held_book [] now (Comes.Ask end_ask) (Some end_opened) (end_sends remove) Says.Nothing []
 ends =
     record {
-      owner = owner;
-      owns_book = refl;
-      records = each_one (OfDss (RecordsAreDue owner ending_book)) _ removes;
+      acts =
+          record {
+            owner = owner;
+            owns_book = refl;
+            records = each_one (OfDss (RecordsAreDue owner ending_book)) _ removes;
+            pair = tt;
+            notes = each_one (OfPeer (NotesAreHeld ending_book)) _ tt;
+            held = tt;
+            removals = tt;
+            tickets = tt;
+            ticket_calls = each_one (OfDss (TicketsAreDue owner ending_book)) _ tt;
+            ticket_removals = each_one (OfDss (RemovalsAreDue owner ending_book)) _ tt;
+            legal = end_follows;
+            final = tt;
+            cause = tt;
+            goes_on = λ e. inr refl;
+          };
       keys = tt;
-      pair = tt;
-      notes = each_one (OfPeer (NotesAreHeld ending_book)) _ tt;
-      held = tt;
-      removals = tt;
-      tickets = tt;
-      ticket_calls = each_one (OfDss (TicketsAreDue owner ending_book)) _ tt;
-      ticket_removals = each_one (OfDss (RemovalsAreDue owner ending_book)) _ tt;
-      legal = end_follows;
-      final = tt;
       hears = inl refl;
-      cause = tt;
-      goes_on = λ e. inr refl;
     }
 
 may_end_flight : MayEnd ending_book 2 (Ends.Ended [])
@@ -246,20 +255,23 @@ kept_as_ended = record { opening = record { job = 2; moment = now; ask = end_ask
 pub ended : MayStep ending_book [] now (end_replied remove (Replies.Removed the_reference [])) (Some end_done) [] (Says.Answer (Ended flight)) []
 ended =
     record {
-      owner = owner;
-      owns_book = refl;
-      records = none_sent (OfDss (RecordsAreDue owner (ending_book ++ end_done ∷ [])));
+      acts =
+          record {
+            owner = owner;
+            owns_book = refl;
+            records = none_sent (OfDss (RecordsAreDue owner (ending_book ++ end_done ∷ [])));
+            pair = tt;
+            notes = none_sent (OfPeer (NotesAreHeld (ending_book ++ end_done ∷ [])));
+            held = tt;
+            removals = ((λ e. record { ask = remove; reply = Replies.Removed the_reference []; answers = (refl, refl, refl); its_call = removes; removed = tt }), undecided_end);
+            tickets = tt;
+            ticket_calls = none_sent (OfDss (TicketsAreDue owner (ending_book ++ end_done ∷ [])));
+            ticket_removals = none_sent (OfDss (RemovalsAreDue owner (ending_book ++ end_done ∷ [])));
+            legal = end_done_follows;
+            final = λ e. kept_as_ended;
+            cause = refl;
+            goes_on = λ e. inl refl;
+          };
       keys = tt;
-      pair = tt;
-      notes = none_sent (OfPeer (NotesAreHeld (ending_book ++ end_done ∷ [])));
-      held = tt;
-      removals = ((λ e. record { ask = remove; reply = Replies.Removed the_reference []; answers = (refl, refl, refl); its_call = removes; removed = tt }), undecided_end);
-      tickets = tt;
-      ticket_calls = none_sent (OfDss (TicketsAreDue owner (ending_book ++ end_done ∷ [])));
-      ticket_removals = none_sent (OfDss (RemovalsAreDue owner (ending_book ++ end_done ∷ [])));
-      legal = end_done_follows;
-      final = λ e. kept_as_ended;
       hears = inl refl;
-      cause = refl;
-      goes_on = λ e. inl refl;
     }

@@ -52,64 +52,73 @@ is_outside (suc k, v, b, e, h) = absurd (omega (arith, b))
 pub conforms : MayStep held_book [] under_way (Comes.Position inside) None [] (Says.Answer (Steady Finds.Conforming)) []
 conforms =
     record {
-      owner = owner;
-      owns_book = refl;
-      records = none_sent (OfDss (RecordsAreDue owner held_book));
+      acts =
+          record {
+            owner = owner;
+            owns_book = refl;
+            records = none_sent (OfDss (RecordsAreDue owner held_book));
+            pair = tt;
+            notes = none_sent (OfPeer (NotesAreHeld held_book));
+            held = tt;
+            removals = tt;
+            tickets = tt;
+            ticket_calls = none_sent (OfDss (TicketsAreDue owner held_book));
+            ticket_removals = none_sent (OfDss (RemovalsAreDue owner held_book));
+            legal = tt;
+            final = λ e. cc;
+            cause = record { pair = held_pair; is_held = is_held_now; conforms = is_inside };
+            goes_on = λ e. inl refl;
+          };
       keys = tt;
-      pair = tt;
-      notes = none_sent (OfPeer (NotesAreHeld held_book));
-      held = tt;
-      removals = tt;
-      tickets = tt;
-      ticket_calls = none_sent (OfDss (TicketsAreDue owner held_book));
-      ticket_removals = none_sent (OfDss (RemovalsAreDue owner held_book));
-      legal = tt;
-      final = λ e. cc;
       hears = inl refl;
-      cause = record { pair = held_pair; is_held = is_held_now; conforms = is_inside };
-      goes_on = λ e. inl refl;
     }
 
 pub strays : MayStep held_book [] under_way (Comes.Position above_it) None [] (Says.Answer (Steady Finds.Nonconforming)) []
 strays =
     record {
-      owner = owner;
-      owns_book = refl;
-      records = none_sent (OfDss (RecordsAreDue owner held_book));
+      acts =
+          record {
+            owner = owner;
+            owns_book = refl;
+            records = none_sent (OfDss (RecordsAreDue owner held_book));
+            pair = tt;
+            notes = none_sent (OfPeer (NotesAreHeld held_book));
+            held = tt;
+            removals = tt;
+            tickets = tt;
+            ticket_calls = none_sent (OfDss (TicketsAreDue owner held_book));
+            ticket_removals = none_sent (OfDss (RemovalsAreDue owner held_book));
+            legal = tt;
+            final = λ e. cc;
+            cause = record { pair = held_pair; is_held = is_held_now; conforms = is_outside };
+            goes_on = λ e. inl refl;
+          };
       keys = tt;
-      pair = tt;
-      notes = none_sent (OfPeer (NotesAreHeld held_book));
-      held = tt;
-      removals = tt;
-      tickets = tt;
-      ticket_calls = none_sent (OfDss (TicketsAreDue owner held_book));
-      ticket_removals = none_sent (OfDss (RemovalsAreDue owner held_book));
-      legal = tt;
-      final = λ e. cc;
       hears = inl refl;
-      cause = record { pair = held_pair; is_held = is_held_now; conforms = is_outside };
-      goes_on = λ e. inl refl;
     }
 
 pub old : MayStep held_book [] now (Comes.Position inside) None [] (Says.Refused (Refuses.OldPosition under_way)) []
 old =
     record {
-      owner = owner;
-      owns_book = refl;
-      records = none_sent (OfDss (RecordsAreDue owner held_book));
+      acts =
+          record {
+            owner = owner;
+            owns_book = refl;
+            records = none_sent (OfDss (RecordsAreDue owner held_book));
+            pair = tt;
+            notes = none_sent (OfPeer (NotesAreHeld held_book));
+            held = tt;
+            removals = tt;
+            tickets = tt;
+            ticket_calls = none_sent (OfDss (TicketsAreDue owner held_book));
+            ticket_removals = none_sent (OfDss (RemovalsAreDue owner held_book));
+            legal = tt;
+            final = tt;
+            cause = omega arith;
+            goes_on = λ e. inl refl;
+          };
       keys = tt;
-      pair = tt;
-      notes = none_sent (OfPeer (NotesAreHeld held_book));
-      held = tt;
-      removals = tt;
-      tickets = tt;
-      ticket_calls = none_sent (OfDss (TicketsAreDue owner held_book));
-      ticket_removals = none_sent (OfDss (RemovalsAreDue owner held_book));
-      legal = tt;
-      final = tt;
       hears = inl refl;
-      cause = omega arith;
-      goes_on = λ e. inl refl;
     }
 
 -- ---- what is owed
@@ -167,43 +176,49 @@ not_awaited e = cc
 pub tells : MayStep owing_book [] now (Comes.Sweep 0) None (Goes.Peer notify ∷ []) Says.Nothing []
 tells =
     record {
-      owner = owner;
-      owns_book = refl;
-      records = each_one (OfDss (RecordsAreDue owner owing_book)) _ tt;
+      acts =
+          record {
+            owner = owner;
+            owns_book = refl;
+            records = each_one (OfDss (RecordsAreDue owner owing_book)) _ tt;
+            pair = tt;
+            notes = each_one (OfPeer (NotesAreHeld owing_book)) _ (record { flight = 1; is = is_held_then });
+            held = tt;
+            removals = tt;
+            tickets = tt;
+            ticket_calls = each_one (OfDss (TicketsAreDue owner owing_book)) _ tt;
+            ticket_removals = each_one (OfDss (RemovalsAreDue owner owing_book)) _ tt;
+            legal = tt;
+            final = tt;
+            cause = tt;
+            goes_on = λ e. cc;
+          };
       keys = tt;
-      pair = tt;
-      notes = each_one (OfPeer (NotesAreHeld owing_book)) _ (record { flight = 1; is = is_held_then });
-      held = tt;
-      removals = tt;
-      tickets = tt;
-      ticket_calls = each_one (OfDss (TicketsAreDue owner owing_book)) _ tt;
-      ticket_removals = each_one (OfDss (RemovalsAreDue owner owing_book)) _ tt;
-      legal = tt;
-      final = tt;
       hears = inl refl;
-      cause = tt;
-      goes_on = λ e. cc;
     }
 
 pub told : MayStep owing_book [] now (Comes.Peer notify Peers.Noted) (Some notified) [] Says.Nothing []
 told =
     record {
-      owner = owner;
-      owns_book = refl;
-      records = none_sent (OfDss (RecordsAreDue owner (owing_book ++ notified ∷ [])));
+      acts =
+          record {
+            owner = owner;
+            owns_book = refl;
+            records = none_sent (OfDss (RecordsAreDue owner (owing_book ++ notified ∷ [])));
+            pair = tt;
+            notes = none_sent (OfPeer (NotesAreHeld (owing_book ++ notified ∷ [])));
+            held = tt;
+            removals = tt;
+            tickets = tt;
+            ticket_calls = none_sent (OfDss (TicketsAreDue owner (owing_book ++ notified ∷ [])));
+            ticket_removals = none_sent (OfDss (RemovalsAreDue owner (owing_book ++ notified ∷ [])));
+            legal = notified_follows;
+            final = tt;
+            cause = tt;
+            goes_on = not_awaited;
+          };
       keys = tt;
-      pair = tt;
-      notes = none_sent (OfPeer (NotesAreHeld (owing_book ++ notified ∷ [])));
-      held = tt;
-      removals = tt;
-      tickets = tt;
-      ticket_calls = none_sent (OfDss (TicketsAreDue owner (owing_book ++ notified ∷ [])));
-      ticket_removals = none_sent (OfDss (RemovalsAreDue owner (owing_book ++ notified ∷ [])));
-      legal = notified_follows;
-      final = tt;
       hears = inl refl;
-      cause = tt;
-      goes_on = not_awaited;
     }
 
 -- ---- what others tell, and failed calls
@@ -211,62 +226,71 @@ told =
 pub hears : MayStep tried_book [] now (Comes.Notified (codes "uss2") note_of_other) None [] Says.Noted (Heard other_pair ∷ [])
 hears =
     record {
-      owner = owner;
-      owns_book = refl;
-      records = none_sent (OfDss (RecordsAreDue owner tried_book));
+      acts =
+          record {
+            owner = owner;
+            owns_book = refl;
+            records = none_sent (OfDss (RecordsAreDue owner tried_book));
+            pair = tt;
+            notes = none_sent (OfPeer (NotesAreHeld tried_book));
+            held = tt;
+            removals = tt;
+            tickets = tt;
+            ticket_calls = none_sent (OfDss (TicketsAreDue owner tried_book));
+            ticket_removals = none_sent (OfDss (RemovalsAreDue owner tried_book));
+            legal = tt;
+            final = tt;
+            cause = tt;
+            goes_on = λ e. inl refl;
+          };
       keys = tt;
-      pair = tt;
-      notes = none_sent (OfPeer (NotesAreHeld tried_book));
-      held = tt;
-      removals = tt;
-      tickets = tt;
-      ticket_calls = none_sent (OfDss (TicketsAreDue owner tried_book));
-      ticket_removals = none_sent (OfDss (RemovalsAreDue owner tried_book));
-      legal = tt;
-      final = tt;
       hears = inr refl;
-      cause = tt;
-      goes_on = λ e. inl refl;
     }
 
 pub forgets : MayStep tried_book (Heard other_pair ∷ []) now (Comes.Notified (codes "uss2") note_of_end) None [] Says.Noted (Heard other_pair ∷ Forgotten other_pair.reference.flight ∷ [])
 forgets =
     record {
-      owner = owner;
-      owns_book = refl;
-      records = none_sent (OfDss (RecordsAreDue owner tried_book));
+      acts =
+          record {
+            owner = owner;
+            owns_book = refl;
+            records = none_sent (OfDss (RecordsAreDue owner tried_book));
+            pair = tt;
+            notes = none_sent (OfPeer (NotesAreHeld tried_book));
+            held = tt;
+            removals = tt;
+            tickets = tt;
+            ticket_calls = none_sent (OfDss (TicketsAreDue owner tried_book));
+            ticket_removals = none_sent (OfDss (RemovalsAreDue owner tried_book));
+            legal = tt;
+            final = tt;
+            cause = tt;
+            goes_on = λ e. inl refl;
+          };
       keys = tt;
-      pair = tt;
-      notes = none_sent (OfPeer (NotesAreHeld tried_book));
-      held = tt;
-      removals = tt;
-      tickets = tt;
-      ticket_calls = none_sent (OfDss (TicketsAreDue owner tried_book));
-      ticket_removals = none_sent (OfDss (RemovalsAreDue owner tried_book));
-      legal = tt;
-      final = tt;
       hears = inr refl;
-      cause = tt;
-      goes_on = λ e. inl refl;
     }
 
 pub left : MayStep tried_book [] now (Comes.Failed 1) None [] (Says.Left (1 ∷ [])) []
 left =
     record {
-      owner = owner;
-      owns_book = refl;
-      records = none_sent (OfDss (RecordsAreDue owner tried_book));
+      acts =
+          record {
+            owner = owner;
+            owns_book = refl;
+            records = none_sent (OfDss (RecordsAreDue owner tried_book));
+            pair = tt;
+            notes = none_sent (OfPeer (NotesAreHeld tried_book));
+            held = tt;
+            removals = tt;
+            tickets = tt;
+            ticket_calls = none_sent (OfDss (TicketsAreDue owner tried_book));
+            ticket_removals = none_sent (OfDss (RemovalsAreDue owner tried_book));
+            legal = tt;
+            final = tt;
+            cause = tt;
+            goes_on = λ e. inl refl;
+          };
       keys = tt;
-      pair = tt;
-      notes = none_sent (OfPeer (NotesAreHeld tried_book));
-      held = tt;
-      removals = tt;
-      tickets = tt;
-      ticket_calls = none_sent (OfDss (TicketsAreDue owner tried_book));
-      ticket_removals = none_sent (OfDss (RemovalsAreDue owner tried_book));
-      legal = tt;
-      final = tt;
       hears = inl refl;
-      cause = tt;
-      goes_on = λ e. inl refl;
     }

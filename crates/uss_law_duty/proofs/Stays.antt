@@ -15,4 +15,4 @@ legal_after book (Some e) l m = legal_longer [] book e l m
 
 pub step_is_legal : (book : List Entry) (heard : List News) (moment : ℤ) (event : Event) (entry : Option Entry) (sends : List Outgoing) (said : Said) (after : List News)
     → IsLegal book → MayStep book heard moment event entry sends said after → IsLegal (book_after book entry)
-step_is_legal book heard moment event entry sends said after l s = legal_after book entry l s.legal
+step_is_legal book heard moment event entry sends said after l s = legal_after book entry l s.acts.legal

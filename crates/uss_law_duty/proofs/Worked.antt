@@ -131,22 +131,25 @@ is_open_then = refl
 pub asking : MayStep new_book [] now (Comes.Ask ask) (Some opened) (sends ticket_put) Says.Nothing []
 asking =
     record {
-      owner = owner;
-      owns_book = refl;
-      records = each_one (OfDss (RecordsAreDue owner asked_book)) _ tt;
+      acts =
+          record {
+            owner = owner;
+            owns_book = refl;
+            records = each_one (OfDss (RecordsAreDue owner asked_book)) _ tt;
+            pair = tt;
+            notes = each_one (OfPeer (NotesAreHeld asked_book)) _ tt;
+            held = tt;
+            removals = tt;
+            tickets = tt;
+            ticket_calls = each_one (OfDss (TicketsAreDue owner asked_book)) _ (puts_its_ticket, is_open_then);
+            ticket_removals = each_one (OfDss (RemovalsAreDue owner asked_book)) _ tt;
+            legal = opens;
+            final = tt;
+            cause = tt;
+            goes_on = λ e. inr refl;
+          };
       keys = tt;
-      pair = tt;
-      notes = each_one (OfPeer (NotesAreHeld asked_book)) _ tt;
-      held = tt;
-      removals = tt;
-      tickets = tt;
-      ticket_calls = each_one (OfDss (TicketsAreDue owner asked_book)) _ (puts_its_ticket, is_open_then);
-      ticket_removals = each_one (OfDss (RemovalsAreDue owner asked_book)) _ tt;
-      legal = opens;
-      final = tt;
       hears = inl refl;
-      cause = tt;
-      goes_on = λ e. inr refl;
     }
 
 pub none_sent : (P : Outgoing → Type 0) (x : Outgoing) → Has [] x → P x
@@ -199,22 +202,25 @@ heard_open_follows = record { first = refl; coding = omega arith; due = may_open
 pub ticket_made : MayStep asked_book [] now (replied ticket_put (Replies.TicketMade the_ticket)) (Some heard_open) (sends query) Says.Nothing []
 ticket_made =
     record {
-      owner = owner;
-      owns_book = refl;
-      records = each_one (OfDss (RecordsAreDue owner ticket_book)) _ tt;
+      acts =
+          record {
+            owner = owner;
+            owns_book = refl;
+            records = each_one (OfDss (RecordsAreDue owner ticket_book)) _ tt;
+            pair = tt;
+            notes = each_one (OfPeer (NotesAreHeld ticket_book)) _ tt;
+            held = tt;
+            removals = tt;
+            tickets = record { ask = ticket_put; reply = Replies.TicketMade the_ticket; answers = (refl, refl, refl); its_call = puts_its_ticket; made = tt };
+            ticket_calls = each_one (OfDss (TicketsAreDue owner ticket_book)) _ tt;
+            ticket_removals = each_one (OfDss (RemovalsAreDue owner ticket_book)) _ tt;
+            legal = heard_open_follows;
+            final = tt;
+            cause = tt;
+            goes_on = λ e. inr refl;
+          };
       keys = tt;
-      pair = tt;
-      notes = each_one (OfPeer (NotesAreHeld ticket_book)) _ tt;
-      held = tt;
-      removals = tt;
-      tickets = record { ask = ticket_put; reply = Replies.TicketMade the_ticket; answers = (refl, refl, refl); its_call = puts_its_ticket; made = tt };
-      ticket_calls = each_one (OfDss (TicketsAreDue owner ticket_book)) _ tt;
-      ticket_removals = each_one (OfDss (RemovalsAreDue owner ticket_book)) _ tt;
-      legal = heard_open_follows;
-      final = tt;
       hears = inl refl;
-      cause = tt;
-      goes_on = λ e. inr refl;
     }
 
 -- nothing is found: the attempt is made with an empty key
@@ -277,22 +283,25 @@ records_it = record { attempt = the_attempt; found = found_by_its_tag; its_job =
 pub nothing_found : MayStep ticket_book [] now (replied query (Replies.Found [])) (Some pending) (sends put) Says.Nothing []
 nothing_found =
     record {
-      owner = owner;
-      owns_book = refl;
-      records = each_one (OfDss (RecordsAreDue owner tried_book)) _ records_it;
+      acts =
+          record {
+            owner = owner;
+            owns_book = refl;
+            records = each_one (OfDss (RecordsAreDue owner tried_book)) _ records_it;
+            pair = tt;
+            notes = each_one (OfPeer (NotesAreHeld tried_book)) _ tt;
+            held = tt;
+            removals = tt;
+            tickets = tt;
+            ticket_calls = each_one (OfDss (TicketsAreDue owner tried_book)) _ tt;
+            ticket_removals = each_one (OfDss (RemovalsAreDue owner tried_book)) _ tt;
+            legal = pending_follows;
+            final = tt;
+            cause = tt;
+            goes_on = λ e. inr refl;
+          };
       keys = λ a f k o g ovn h. absurd h;
-      pair = tt;
-      notes = each_one (OfPeer (NotesAreHeld tried_book)) _ tt;
-      held = tt;
-      removals = tt;
-      tickets = tt;
-      ticket_calls = each_one (OfDss (TicketsAreDue owner tried_book)) _ tt;
-      ticket_removals = each_one (OfDss (RemovalsAreDue owner tried_book)) _ tt;
-      legal = pending_follows;
-      final = tt;
       hears = inl refl;
-      cause = tt;
-      goes_on = λ e. inr refl;
     }
 
 -- the attempt landed: it is entered as held, and the answer is Planned
@@ -345,44 +354,50 @@ is_kept event e = record { opening = record { job = 1; moment = now; ask = ask }
 pub landed : MayStep tried_book [] now (replied put (Replies.Landed the_reference [])) (Some recorded) [] planned []
 landed =
     record {
-      owner = owner;
-      owns_book = refl;
-      records = none_sent (OfDss (RecordsAreDue owner held_book));
+      acts =
+          record {
+            owner = owner;
+            owns_book = refl;
+            records = none_sent (OfDss (RecordsAreDue owner held_book));
+            pair = tt;
+            notes = none_sent (OfPeer (NotesAreHeld held_book));
+            held = holds_by_landing;
+            removals = tt;
+            tickets = tt;
+            ticket_calls = none_sent (OfDss (TicketsAreDue owner held_book));
+            ticket_removals = none_sent (OfDss (RemovalsAreDue owner held_book));
+            legal = recorded_follows;
+            final = λ e. is_kept (replied put (Replies.Landed the_reference [])) refl;
+            cause = refl;
+            goes_on = λ e. inl refl;
+          };
       keys = tt;
-      pair = tt;
-      notes = none_sent (OfPeer (NotesAreHeld held_book));
-      held = holds_by_landing;
-      removals = tt;
-      tickets = tt;
-      ticket_calls = none_sent (OfDss (TicketsAreDue owner held_book));
-      ticket_removals = none_sent (OfDss (RemovalsAreDue owner held_book));
-      legal = recorded_follows;
-      final = λ e. is_kept (replied put (Replies.Landed the_reference [])) refl;
       hears = inl refl;
-      cause = refl;
-      goes_on = λ e. inl refl;
     }
 
 -- the reply to the Put was lost: the late copy is refused as there, and what is recorded is asked for
 pub asks_again : MayStep tried_book [] now (replied put exists) None (sends get) Says.Nothing []
 asks_again =
     record {
-      owner = owner;
-      owns_book = refl;
-      records = each_one (OfDss (RecordsAreDue owner tried_book)) _ tt;
+      acts =
+          record {
+            owner = owner;
+            owns_book = refl;
+            records = each_one (OfDss (RecordsAreDue owner tried_book)) _ tt;
+            pair = tt;
+            notes = each_one (OfPeer (NotesAreHeld tried_book)) _ tt;
+            held = tt;
+            removals = tt;
+            tickets = tt;
+            ticket_calls = each_one (OfDss (TicketsAreDue owner tried_book)) _ tt;
+            ticket_removals = each_one (OfDss (RemovalsAreDue owner tried_book)) _ tt;
+            legal = tt;
+            final = tt;
+            cause = tt;
+            goes_on = λ e. inr refl;
+          };
       keys = tt;
-      pair = tt;
-      notes = each_one (OfPeer (NotesAreHeld tried_book)) _ tt;
-      held = tt;
-      removals = tt;
-      tickets = tt;
-      ticket_calls = each_one (OfDss (TicketsAreDue owner tried_book)) _ tt;
-      ticket_removals = each_one (OfDss (RemovalsAreDue owner tried_book)) _ tt;
-      legal = tt;
-      final = tt;
       hears = inl refl;
-      cause = tt;
-      goes_on = λ e. inr refl;
     }
 
 holds_by_get : HoldsByReply owner tried_book (replied get (Replies.Got the_reference)) 1 1 ovn 1
@@ -404,66 +419,75 @@ holds_by_get =
 pub got : MayStep tried_book [] now (replied get (Replies.Got the_reference)) (Some recorded) [] planned []
 got =
     record {
-      owner = owner;
-      owns_book = refl;
-      records = none_sent (OfDss (RecordsAreDue owner held_book));
+      acts =
+          record {
+            owner = owner;
+            owns_book = refl;
+            records = none_sent (OfDss (RecordsAreDue owner held_book));
+            pair = tt;
+            notes = none_sent (OfPeer (NotesAreHeld held_book));
+            held = holds_by_get;
+            removals = tt;
+            tickets = tt;
+            ticket_calls = none_sent (OfDss (TicketsAreDue owner held_book));
+            ticket_removals = none_sent (OfDss (RemovalsAreDue owner held_book));
+            legal = recorded_follows;
+            final = λ e. is_kept (replied get (Replies.Got the_reference)) refl;
+            cause = refl;
+            goes_on = λ e. inl refl;
+          };
       keys = tt;
-      pair = tt;
-      notes = none_sent (OfPeer (NotesAreHeld held_book));
-      held = holds_by_get;
-      removals = tt;
-      tickets = tt;
-      ticket_calls = none_sent (OfDss (TicketsAreDue owner held_book));
-      ticket_removals = none_sent (OfDss (RemovalsAreDue owner held_book));
-      legal = recorded_follows;
-      final = λ e. is_kept (replied get (Replies.Got the_reference)) refl;
       hears = inl refl;
-      cause = refl;
-      goes_on = λ e. inl refl;
     }
 
 -- the key lacked something, and rounds are left: the airspace is asked for anew
 pub lacked : MayStep tried_book [] now (replied put missing) None (sends query) Says.Nothing []
 lacked =
     record {
-      owner = owner;
-      owns_book = refl;
-      records = each_one (OfDss (RecordsAreDue owner tried_book)) _ tt;
+      acts =
+          record {
+            owner = owner;
+            owns_book = refl;
+            records = each_one (OfDss (RecordsAreDue owner tried_book)) _ tt;
+            pair = tt;
+            notes = each_one (OfPeer (NotesAreHeld tried_book)) _ tt;
+            held = tt;
+            removals = tt;
+            tickets = tt;
+            ticket_calls = each_one (OfDss (TicketsAreDue owner tried_book)) _ tt;
+            ticket_removals = each_one (OfDss (RemovalsAreDue owner tried_book)) _ tt;
+            legal = tt;
+            final = tt;
+            cause = tt;
+            goes_on = λ e. inr refl;
+          };
       keys = tt;
-      pair = tt;
-      notes = each_one (OfPeer (NotesAreHeld tried_book)) _ tt;
-      held = tt;
-      removals = tt;
-      tickets = tt;
-      ticket_calls = each_one (OfDss (TicketsAreDue owner tried_book)) _ tt;
-      ticket_removals = each_one (OfDss (RemovalsAreDue owner tried_book)) _ tt;
-      legal = tt;
-      final = tt;
       hears = inl refl;
-      cause = tt;
-      goes_on = λ e. inr refl;
     }
 
 -- after a restart the same request makes the Put of the last attempt go out again
 pub resumed : MayStep tried_book [] now (Comes.Ask ask) None (sends put) Says.Nothing []
 resumed =
     record {
-      owner = owner;
-      owns_book = refl;
-      records = each_one (OfDss (RecordsAreDue owner tried_book)) _ records_it;
+      acts =
+          record {
+            owner = owner;
+            owns_book = refl;
+            records = each_one (OfDss (RecordsAreDue owner tried_book)) _ records_it;
+            pair = tt;
+            notes = each_one (OfPeer (NotesAreHeld tried_book)) _ tt;
+            held = tt;
+            removals = tt;
+            tickets = tt;
+            ticket_calls = each_one (OfDss (TicketsAreDue owner tried_book)) _ tt;
+            ticket_removals = each_one (OfDss (RemovalsAreDue owner tried_book)) _ tt;
+            legal = tt;
+            final = tt;
+            cause = tt;
+            goes_on = λ e. inr refl;
+          };
       keys = tt;
-      pair = tt;
-      notes = each_one (OfPeer (NotesAreHeld tried_book)) _ tt;
-      held = tt;
-      removals = tt;
-      tickets = tt;
-      ticket_calls = each_one (OfDss (TicketsAreDue owner tried_book)) _ tt;
-      ticket_removals = each_one (OfDss (RemovalsAreDue owner tried_book)) _ tt;
-      legal = tt;
-      final = tt;
       hears = inl refl;
-      cause = tt;
-      goes_on = λ e. inr refl;
     }
 
 -- a cancel after an attempt takes the ticket out first
@@ -492,22 +516,25 @@ removes_ticket = record { is = refl; heard_open = refl; may = inl (refl, refl) }
 pub cancels : MayStep tried_book [] now (Comes.Cancel 1 1) (Some cancelling) (sends ticket_remove) Says.Nothing []
 cancels =
     record {
-      owner = owner;
-      owns_book = refl;
-      records = each_one (OfDss (RecordsAreDue owner cancelled_book)) _ tt;
+      acts =
+          record {
+            owner = owner;
+            owns_book = refl;
+            records = each_one (OfDss (RecordsAreDue owner cancelled_book)) _ tt;
+            pair = tt;
+            notes = each_one (OfPeer (NotesAreHeld cancelled_book)) _ tt;
+            held = tt;
+            removals = tt;
+            tickets = tt;
+            ticket_calls = each_one (OfDss (TicketsAreDue owner cancelled_book)) _ tt;
+            ticket_removals = each_one (OfDss (RemovalsAreDue owner cancelled_book)) _ removes_ticket;
+            legal = cancelling_follows;
+            final = tt;
+            cause = tt;
+            goes_on = λ e. inr refl;
+          };
       keys = tt;
-      pair = tt;
-      notes = each_one (OfPeer (NotesAreHeld cancelled_book)) _ tt;
-      held = tt;
-      removals = tt;
-      tickets = tt;
-      ticket_calls = each_one (OfDss (TicketsAreDue owner cancelled_book)) _ tt;
-      ticket_removals = each_one (OfDss (RemovalsAreDue owner cancelled_book)) _ removes_ticket;
-      legal = cancelling_follows;
-      final = tt;
       hears = inl refl;
-      cause = tt;
-      goes_on = λ e. inr refl;
     }
 
 -- the ticket is gone: the job ends as it decided
@@ -525,20 +552,23 @@ kept_as_cancelled = record { opening = record { job = 1; moment = now; ask = ask
 pub cancelled : MayStep cancelled_book [] now (replied ticket_remove (Replies.TicketRemoved the_ticket)) (Some done) [] (Says.Answer Cancelled) []
 cancelled =
     record {
-      owner = owner;
-      owns_book = refl;
-      records = none_sent (OfDss (RecordsAreDue owner (cancelled_book ++ done ∷ [])));
+      acts =
+          record {
+            owner = owner;
+            owns_book = refl;
+            records = none_sent (OfDss (RecordsAreDue owner (cancelled_book ++ done ∷ [])));
+            pair = tt;
+            notes = none_sent (OfPeer (NotesAreHeld (cancelled_book ++ done ∷ [])));
+            held = tt;
+            removals = ((λ e. cc), (λ e. record { reply = Replies.TicketRemoved the_ticket; answers = (refl, refl, refl); removed = tt }));
+            tickets = tt;
+            ticket_calls = none_sent (OfDss (TicketsAreDue owner (cancelled_book ++ done ∷ [])));
+            ticket_removals = none_sent (OfDss (RemovalsAreDue owner (cancelled_book ++ done ∷ [])));
+            legal = done_follows;
+            final = λ e. kept_as_cancelled;
+            cause = refl;
+            goes_on = λ e. inl refl;
+          };
       keys = tt;
-      pair = tt;
-      notes = none_sent (OfPeer (NotesAreHeld (cancelled_book ++ done ∷ [])));
-      held = tt;
-      removals = ((λ e. cc), (λ e. record { reply = Replies.TicketRemoved the_ticket; answers = (refl, refl, refl); removed = tt }));
-      tickets = tt;
-      ticket_calls = none_sent (OfDss (TicketsAreDue owner (cancelled_book ++ done ∷ [])));
-      ticket_removals = none_sent (OfDss (RemovalsAreDue owner (cancelled_book ++ done ∷ [])));
-      legal = done_follows;
-      final = λ e. kept_as_cancelled;
       hears = inl refl;
-      cause = refl;
-      goes_on = λ e. inl refl;
     }

@@ -1,6 +1,7 @@
 -- What one step of a supplier may do: from its book, what it heard, the moment and an event, to at most one entry, sends and a saying.
 -- The moment is one within the range of instants. This project's own, after the strategic coordination of ASTM F3548-21.
-use Rattle.std.specs.Prelude.{ℕ, ◌≡◌, ◌⊎◌, ℤ, Bool, true, false, not, ◌&&◌, List, [], ◌∷◌, ◌++◌, length, Option, Some, None, is_some, IfSome}
+use Rattle.std.specs.Prelude.{ℕ, ◌≡◌, ◌⊎◌, ℤ, pos, Bool, true, false, not, ◌&&◌, List, [], ◌∷◌, ◌++◌, length, Option, Some, None, is_some, IfSome}
+use Rattle.std.specs.Int.{int_min, int_max}
 use Rattle.uss_intent.specs.declared.calls.DssAsk.{DssAsk}
 use Rattle.uss_intent.specs.declared.calls.DssAsk.TheVariants as Asks
 use Rattle.uss_event.specs.declared.entries.Owner.{Owner}
@@ -60,13 +61,23 @@ says_something _ = true
 abbrev pub GoesOn : Event → List Entry → List Outgoing → Said → Type 0
 GoesOn event book sends said = is_prompting event book ≡ true → (says_something said ≡ true) ⊎ (length sends ≡ 1)
 
-pub record MayStep (book : List Entry) (heard : List News) (moment : ℤ) (event : Event) (entry : Option Entry) (sends : List Outgoing) (said : Said) (heard_after : List News) : Type 0 where
+-- what a step of a supplier comes to: an entry or none, the calls that it makes, what it says, and what it has heard then
+pub record Choice : Type 0 where
+  pub entry : Option Entry
+  pub sends : List Outgoing
+  pub said : Said
+  pub heard : List News
+
+-- a moment within the range of instants, 2000-01-01 to 2200-01-01: one outside is taken as the nearest bound
+unfoldable pub clamped : ℤ → ℤ
+clamped moment = int_max (pos 946684800000000000) (int_min moment (pos 7258118400000000000))
+
+-- what a step may enter, send and say, whatever was heard before
+pub record MayAct (book : List Entry) (moment : ℤ) (event : Event) (entry : Option Entry) (sends : List Outgoing) (said : Said) : Type 0 where
   pub owner : Owner
   pub owns_book : owner_of book ≡ Some owner
   -- each Put and each Remove that is sent is one of an open job, as the book with the new entry has it
   pub records : (x : Outgoing) → Has sends x → OfDss (RecordsAreDue owner (book_after book entry)) x
-  -- an attempt's key has the OVNs of pairs that were heard or are held, and against which the attempt is clear
-  pub keys : IfSome entry (KeyIsClear owner book heard event)
   -- what is said or noted of a flight is what is held of it, and that is entered only as a reply shows it
   pub pair : PairIsHeld (book_after book entry) said
   pub notes : (x : Outgoing) → Has sends x → OfPeer (NotesAreHeld (book_after book entry)) x
@@ -82,9 +93,15 @@ pub record MayStep (book : List Entry) (heard : List News) (moment : ℤ) (event
   pub legal : IfSome entry (MayFollow book)
   -- a final answer is the one that the book keeps
   pub final : FinalIsKept owner (book_after book entry) event said
-  -- nothing is heard that wasn't told
-  pub hears : HearsOnly heard event heard_after
   -- each other answer has its cause
   pub cause : SayingHasCause owner book moment event said
   -- nobody is left without an answer or a next call
   pub goes_on : GoesOn event book sends said
+
+-- and what it may do where so much was heard
+pub record MayStep (book : List Entry) (heard : List News) (moment : ℤ) (event : Event) (entry : Option Entry) (sends : List Outgoing) (said : Said) (heard_after : List News) : Type 0 where
+  pub acts : MayAct book moment event entry sends said
+  -- an attempt's key has the OVNs of pairs that were heard or are held, and against which the attempt is clear
+  pub keys : IfSome entry (KeyIsClear acts.owner book heard event)
+  -- nothing is heard that wasn't told
+  pub hears : HearsOnly heard event heard_after

@@ -8,8 +8,9 @@ use Rattle.uss_intent.specs.declared.calls.DssAsk.TheVariants as Asks
 use Rattle.uss_intent.specs.declared.calls.DssReply.{DssReply}
 use Rattle.uss_intent.specs.declared.calls.DssReply.TheVariants as Replies
 use Rattle.uss_intent.specs.declared.calls.DssRefusal.TheVariants as Refuses
+use Rattle.uss_intent.specs.States.{is_strategic}
 use Rattle.uss_event.specs.Pairs.{OperationalIntent}
-use Rattle.uss_event.specs.Verdicts.{verdict, is_strategic}
+use Rattle.uss_event.specs.Verdicts.{verdict}
 use Rattle.uss_event.specs.declared.rules.Verdict.TheVariants.{Clear}
 use Rattle.uss_event.specs.declared.details.Candidate.{Candidate}
 use Rattle.uss_event.specs.declared.entries.Owner.{Owner}

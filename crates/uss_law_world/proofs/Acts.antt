@@ -8,8 +8,10 @@ use Rattle.uss_intent.specs.declared.calls.DssAsk.{DssAsk}
 use Rattle.uss_intent.specs.declared.calls.DssAsk.TheVariants as Asks
 use Rattle.uss_intent.specs.declared.calls.DssReply.{DssReply}
 use Rattle.uss_intent.specs.declared.calls.DssReply.TheVariants as Replies
+use Rattle.uss_intent.specs.States.{is_strategic}
+use Rattle.uss_intent.specs.Numbers.{is_one_of}
 use Rattle.uss_event.specs.Pairs.{OperationalIntent}
-use Rattle.uss_event.specs.Verdicts.{verdict, is_strategic}
+use Rattle.uss_event.specs.Verdicts.{verdict}
 use Rattle.uss_event.specs.declared.rules.Verdict.TheVariants.{Clear}
 use Rattle.uss_event.specs.declared.asks.Wish.{Wish}
 use Rattle.uss_event.specs.declared.asks.Wish.TheVariants as Wishes
@@ -32,7 +34,6 @@ use Rattle.uss_event.specs.declared.events.Said.TheVariants as Says
 use Rattle.uss_event.specs.declared.events.Event.{Event}
 use Rattle.uss_event.specs.declared.events.Event.TheVariants as Events
 use Rattle.uss_law_dss.specs.Lists.{Has}
-use Rattle.uss_law_dss.specs.Service.{has_number}
 use Rattle.uss_law_dss.proofs.Lists.{has_append, has_push, has_map, find_has, list_any_has, has_filtered}
 use Rattle.uss_law_dss.proofs.Tests.{some_same, same_number, equal_number, both, either}
 use Rattle.uss_law_book.specs.Lists.{owner_of, Opening, Trial, Holding, Closing, openings, trials, holdings, endings}
@@ -51,11 +52,11 @@ use Rattle.uss_law_duty.specs.Answers.{flight_of, by_trial, by_end, by_close, ke
 use Rattle.uss_law_duty.specs.Sends.{MayLose, RecordsAreDue, RemovalsAreDue, IsHeldPair, NotesAreHeld, OfDss, OfPeer, ticket_remove}
 use Rattle.uss_law_duty.specs.Entered.{candidate_of, Answers, IsKnown, KeyIsClear, shown_tag, ShowsRecord, HoldsByReply, HeldIsShown, IsRemoved, IsTicketRemoved, EndsByReply, LosesByReply, EndsAs, RemovalIsShown}
 use Rattle.uss_law_duty.specs.Sayings.{PairIsHeld, FinalIsKept}
-use Rattle.uss_law_duty.specs.Duties.{book_after, MayStep}
+use Rattle.uss_law_duty.specs.Duties.{book_after, MayStep, Choice, clamped}
 use Rattle.uss_law_duty.proofs.Stays.{step_is_legal}
 use Rattle.uss_law_world.specs.World.{Supplier, Post, Saying, World, supplier_in, book_in, heard_in, name_in, book_of, heard_of, name_of, post_of}
 use Rattle.uss_law_world.specs.World.Post.{Called, Replied, Asked, Answered}
-use Rattle.uss_law_world.specs.Moves.{Choice, Asker, Arrival, clamped, pair_reply, reply_by, answer_with, answer_to, posts_of, request_of, request_named, saying_of, stepped, after_step}
+use Rattle.uss_law_world.specs.Moves.{Asker, Arrival, pair_reply, reply_by, answer_with, answer_to, posts_of, request_of, request_named, saying_of, stepped, after_step}
 use Rattle.uss_law_world.specs.Free.{AreSuppliers}
 use Rattle.uss_law_world.specs.Claims.{tag_in}
 use Rattle.uss_law_world.proofs.Books.{based}
@@ -156,16 +157,16 @@ module _ (table : List ℕ) (owners : List Owner) (w : World) (names : AreSuppli
   own = go (supplier_in s w.suppliers) refl
     where
       go : (y : Option Supplier) → supplier_in s w.suppliers ≡ y → (x : Supplier) × Stands owners w s x
-      go None e = let n : None ≡ Some m.owner = sym (ap (λ z. owner_of (book_in z)) e) ∙ m.owns_book in cc
+      go None e = let n : None ≡ Some m.acts.owner = sym (ap (λ z. owner_of (book_in z)) e) ∙ m.acts.owns_book in cc
       go (Some x) e = (x, stands table owners w j s x e)
 
   abbrev st : Stands owners w s own.0
   st = own.1
 
-  owner_is : m.owner ≡ own.0.owner
-  owner_is = some_same m.owner own.0.owner (sym m.owns_book ∙ st.own)
+  owner_is : m.acts.owner ≡ own.0.owner
+  owner_is = some_same m.acts.owner own.0.owner (sym m.acts.owns_book ∙ st.own)
 
-  number_is : m.owner.number ≡ s
+  number_is : m.acts.owner.number ≡ s
   number_is = ap (λ (z : Owner). z.number) owner_is ∙ st.number
 
   legal_after : IsLegal after
@@ -210,7 +211,7 @@ module _ (table : List ℕ) (owners : List Owner) (w : World) (names : AreSuppli
       ]
 
       untried : (k : ℕ) → k ≡ s → (d : Closing) → Has (endings (book_of k w)) d → (t : Trial) → Has (trials after) t → t.job ≡ d.job → Has (trials (book_of k w)) t
-      untried k e d h t n q = subst (λ z. Has (trials (book_of z w)) t) (sym e) (untried_by c.entry m.legal d (subst (λ z. Has (endings (book_of z w)) d) e h) t n q)
+      untried k e d h t n q = subst (λ z. Has (trials (book_of z w)) t) (sym e) (untried_by c.entry m.acts.legal d (subst (λ z. Has (endings (book_of z w)) d) e h) t n q)
 
   -- what the event shows
   came_reply : (job : ℕ) (ask : DssAsk) (reply : DssReply) → Answers a.event job ask reply → ReplyShows w s job ask reply
@@ -254,26 +255,26 @@ module _ (table : List ℕ) (owners : List Owner) (w : World) (names : AreSuppli
       go None q = cc
       go (Some z) q = refl
 
-  shows_landing : (job tag : ℕ) (ask : DssAsk) (reply : DssReply) (r : Reference) → ReplyShows w s job ask reply → ShowsRecord m.owner book job tag ask reply r → ShowsLanding w s r
+  shows_landing : (job tag : ℕ) (ask : DssAsk) (reply : DssReply) (r : Reference) → ReplyShows w s job ask reply → ShowsRecord m.acts.owner book job tag ask reply r → ShowsLanding w s r
   shows_landing job tag ask (Replies.Landed reference subscribers) r x h = subst (ShowsLanding w s) h.1 x
   shows_landing job tag ask (Replies.Got reference) r x h = subst (ShowsLanding w s) h.1 x
   shows_landing job tag ask _ r x h = absurd h
 
-  held_landing : (job tag : ℕ) (ovn : List ℕ) (version : ℕ) → HoldsByReply m.owner book a.event job tag ovn version → HasLanding w s tag ovn version
+  held_landing : (job tag : ℕ) (ovn : List ℕ) (version : ℕ) → HoldsByReply m.acts.owner book a.event job tag ovn version → HasLanding w s tag ovn version
   held_landing job tag ovn version h =
       let x = came_reply job h.ask h.reply h.answers in
       let y = shows_landing job tag h.ask h.reply h.reference x h.shows in
       subst (λ z. HasLanding w s z ovn version) (tag_shown h.reference tag ovn h.tag_is h.ovn_is) (subst (λ z. HasLanding w s (tag_in h.reference) ovn z) h.version_is (y ovn h.ovn_is))
 
-  new_held : (e : Entry) → HeldIsShown m.owner book a.event e → (h : Holding) → Has (holdings (e ∷ [])) h → HasLanding w s h.tag h.ovn h.version
+  new_held : (e : Entry) → HeldIsShown m.acts.owner book a.event e → (h : Holding) → Has (holdings (e ∷ [])) h → HasLanding w s h.tag h.ovn h.version
   new_held (Enters.Held job tag ovn version owed) d h (inl q) = subst (λ (z : Holding). HasLanding w s z.tag z.ovn z.version) q (held_landing job tag ovn version d)
   new_held (Enters.Held job tag ovn version owed) d h (inr n) = absurd n
   new_held _ d h n = absurd n
 
   held_after : (h : Holding) → Has (holdings after) h → Has (holdings book) h ⊎ HasLanding w s h.tag h.ovn h.version
-  held_after h k = go c.entry m.held k
+  held_after h k = go c.entry m.acts.held k
     where
-      go : (entry : Option Entry) → IfSome entry (HeldIsShown m.owner book a.event) → Has (holdings (book_after book entry)) h → Has (holdings book) h ⊎ HasLanding w s h.tag h.ovn h.version
+      go : (entry : Option Entry) → IfSome entry (HeldIsShown m.acts.owner book a.event) → Has (holdings (book_after book entry)) h → Has (holdings book) h ⊎ HasLanding w s h.tag h.ovn h.version
       go None d k = inl k
       go (Some e) d k = elim (which_holding book (e ∷ []) h k) [ inl old ↦ inl old | inr new ↦ inr (new_held e d h new) ]
 
@@ -306,16 +307,16 @@ module _ (table : List ℕ) (owners : List Owner) (w : World) (names : AreSuppli
   lose_opening job (inl h) = let x = open_parts after job h.0 in let i = opening_has after job x.0 x.1 in (x.0, i.0, i.1)
   lose_opening job (inr h) = closed_opening job (legal_is_orderly after legal_after) h.0
 
-  remove_is : (o : Opening) (flight : ℕ) (ovn x : List ℕ) → Asks.Remove flight ovn ≡ Asks.Remove (flight_of m.owner o) x → ovn ≡ x
+  remove_is : (o : Opening) (flight : ℕ) (ovn x : List ℕ) → Asks.Remove flight ovn ≡ Asks.Remove (flight_of m.acts.owner o) x → ovn ≡ x
   remove_is o flight ovn x e = cc
 
-  remove_flight : (o : Opening) (flight : ℕ) (ovn x : List ℕ) → Asks.Remove flight ovn ≡ Asks.Remove (flight_of m.owner o) x → flight ≡ flight_of m.owner o
+  remove_flight : (o : Opening) (flight : ℕ) (ovn x : List ℕ) → Asks.Remove flight ovn ≡ Asks.Remove (flight_of m.acts.owner o) x → flight ≡ flight_of m.acts.owner o
   remove_flight o flight ovn x e = cc
 
-  ticket_is : (job ticket version : ℕ) → Asks.TicketRemove ticket version ≡ ticket_remove m.owner job → ticket ≡ ticket_number m.owner.number job
+  ticket_is : (job ticket version : ℕ) → Asks.TicketRemove ticket version ≡ ticket_remove m.acts.owner job → ticket ≡ ticket_number m.acts.owner.number job
   ticket_is job ticket version e = cc
 
-  call_due : (job : ℕ) (ask : DssAsk) → RecordsAreDue m.owner after job ask → RemovalsAreDue m.owner after job ask → CallFrom v s job ask
+  call_due : (job : ℕ) (ask : DssAsk) → RecordsAreDue m.acts.owner after job ask → RemovalsAreDue m.acts.owner after job ask → CallFrom v s job ask
   call_due job (Asks.Put flight ovn extents key state base ticket) h k =
       record {
         attempt = h.attempt;
@@ -326,7 +327,7 @@ module _ (table : List ℕ) (owners : List Owner) (w : World) (names : AreSuppli
   call_due job (Asks.Remove flight ovn) h k =
       let x = based after h.opening.ask.flight h.ovn h.base in
       let i = opening_has after job h.opening h.opened in
-      let f : flight ≡ flight_number m.owner.number h.opening.ask.flight = remove_flight h.opening flight ovn h.ovn h.is in
+      let f : flight ≡ flight_number m.acts.owner.number h.opening.ask.flight = remove_flight h.opening flight ovn h.ovn h.is in
       record {
         names = record { holding = x.0; entered = subst (λ b. Has (holdings b) x.0) (sym after_is) x.1; ovn_is = x.2 ∙ sym (remove_is h.opening flight ovn h.ovn h.is) };
         ends = record {
@@ -351,8 +352,8 @@ module _ (table : List ℕ) (owners : List Owner) (w : World) (names : AreSuppli
     | inl sent ↦ (
         let x = has_map (post_of w.suppliers s) c.sends (Called k call) sent in
         let y = sent_call w.suppliers s x.0 k call x.2 in
-        let r : RecordsAreDue m.owner after call.job call.ask = subst (OfDss (RecordsAreDue m.owner after)) y.1 (m.records x.0 x.1) in
-        let q : RemovalsAreDue m.owner after call.job call.ask = subst (OfDss (RemovalsAreDue m.owner after)) y.1 (m.ticket_removals x.0 x.1) in
+        let r : RecordsAreDue m.acts.owner after call.job call.ask = subst (OfDss (RecordsAreDue m.acts.owner after)) y.1 (m.acts.records x.0 x.1) in
+        let q : RemovalsAreDue m.acts.owner after call.job call.ask = subst (OfDss (RemovalsAreDue m.acts.owner after)) y.1 (m.acts.ticket_removals x.0 x.1) in
         subst (λ z. CallFrom v z call.job call.ask) y.0 (call_due call.job call.ask r q))
     | inr told ↦ (let x = answered a.asker c.said (Called k call) told in let e = x.3 in cc)
   ]
@@ -373,7 +374,7 @@ module _ (table : List ℕ) (owners : List Owner) (w : World) (names : AreSuppli
         let x = answered a.asker c.said (Answered k n call (Peers.Served p)) told in
         let e : x.1 ≡ Peers.Served p = served_is x.0.from x.0.number k n x.0.call call x.1 (Peers.Served p) x.3 in
         let f : c.said ≡ Says.Pair (Some p) = served_said c.said p (x.2 ∙ ap Some e) in
-        let g : PairIsHeld after (Says.Pair (Some p)) = subst (PairIsHeld after) f m.pair in
+        let g : PairIsHeld after (Says.Pair (Some p)) = subst (PairIsHeld after) f m.acts.pair in
         pair_after p g)
   ]
 
@@ -382,7 +383,7 @@ module _ (table : List ℕ) (owners : List Owner) (w : World) (names : AreSuppli
     | inl sent ↦ (
         let x = has_map (post_of w.suppliers s) c.sends (Asked k to (Calls.Notify job place base note)) sent in
         let y = sent_peer w.suppliers s x.0 k to (Calls.Notify job place base note) x.2 in
-        let r : IfSome note.pair (IsHeldPair after) = subst (OfPeer (NotesAreHeld after)) y.1 (m.notes x.0 x.1) in
+        let r : IfSome note.pair (IsHeldPair after) = subst (OfPeer (NotesAreHeld after)) y.1 (m.acts.notes x.0 x.1) in
         let q : IsHeldPair after p = subst (λ (z : Option OperationalIntent). IfSome z (IsHeldPair after)) e r in
         pair_after p q)
     | inr told ↦ (let x = answered a.asker c.said (Asked k to (Calls.Notify job place base note)) told in let f = x.3 in cc)
@@ -396,7 +397,7 @@ module _ (table : List ℕ) (owners : List Owner) (w : World) (names : AreSuppli
   ]
 
   -- a new attempt's key is clear
-  new_clear : (e : Entry) → KeyIsClear m.owner book (heard_of s w) a.event e → IsDue book e → (t : Trial) → Has (trials (e ∷ [])) t → (tag : ℕ) (x : Attempted) → t.tag ≡ tag → attempt_of tag (book ++ e ∷ []) ≡ Some x
+  new_clear : (e : Entry) → KeyIsClear m.acts.owner book (heard_of s w) a.event e → IsDue book e → (t : Trial) → Has (trials (e ∷ [])) t → (tag : ℕ) (x : Attempted) → t.tag ≡ tag → attempt_of tag (book ++ e ∷ []) ≡ Some x
       → x.key ≡ t.key → x.previous ≡ t.previous → is_strategic x.state ≡ true → (o : List ℕ) → Has x.key o → IsClearOvn table v x o
   new_clear (Enters.Pending job tag' alternative previous key) k d t (inl q) tag x n f key_is previous_is strategic o h =
       let i : attempt_of tag' (book ++ Enters.Pending job tag' alternative previous key ∷ []) ≡ Some x =
@@ -405,7 +406,7 @@ module _ (table : List ℕ) (owners : List Owner) (w : World) (names : AreSuppli
       let y = k x i strategic d.opening d.unfinished.opened o h' in
       let p : x.previous ≡ base_of d.opening.ask.flight book = previous_is ∙ (ap (λ (z : Trial). z.previous) (sym q) ∙ d.base) in
       let b = base_is book d.opening.ask.flight orderly in
-      let tb : m.owner.table ≡ table = ap (λ (z : Owner). z.table) owner_is ∙ names.one_table own.0.owner st.one in
+      let tb : m.acts.owner.table ≡ table = ap (λ (z : Owner). z.table) owner_is ∙ names.one_table own.0.owner st.one in
       record {
         pair = y.pair;
         made = made grows y.pair (known y.pair y.known);
@@ -427,9 +428,9 @@ module _ (table : List ℕ) (owners : List Owner) (w : World) (names : AreSuppli
   new_clear _ k d t z tag x n f key_is previous_is strategic o h = absurd z
 
   attempt_after : (tag : ℕ) (x : Attempted) → attempt_of tag after ≡ Some x → (attempt_of tag book ≡ Some x) ⊎ (is_strategic x.state ≡ true → (o : List ℕ) → Has x.key o → IsClearOvn table v x o)
-  attempt_after tag x f = go c.entry m.keys m.legal f
+  attempt_after tag x f = go c.entry m.keys m.acts.legal f
     where
-      go : (entry : Option Entry) → IfSome entry (KeyIsClear m.owner book (heard_of s w) a.event) → IfSome entry (MayFollow book) → attempt_of tag (book_after book entry) ≡ Some x
+      go : (entry : Option Entry) → IfSome entry (KeyIsClear m.acts.owner book (heard_of s w) a.event) → IfSome entry (MayFollow book) → attempt_of tag (book_after book entry) ≡ Some x
           → (attempt_of tag book ≡ Some x) ⊎ (is_strategic x.state ≡ true → (o : List ℕ) → Has x.key o → IsClearOvn table v x o)
       go None k l f = inl f
       go (Some e) k l f =
@@ -456,24 +457,24 @@ module _ (table : List ℕ) (owners : List Owner) (w : World) (names : AreSuppli
   ticket_retired_by job ask (Replies.Refused refusal) x h = x.retired h
   ticket_retired_by job ask _ x h = absurd h
 
-  end_flight : (job : ℕ) → EndsByReply m.owner book a.event job → IsFlightRetired v s job
+  end_flight : (job : ℕ) → EndsByReply m.acts.owner book a.event job → IsFlightRetired v s job
   end_flight job h =
       let q = h.its_call in
       let x = retired_by job h.ask h.reply (came_reply job h.ask h.reply h.answers) h.removed in
-      let y : has_number (flight_number m.owner.number q.opening.ask.flight) w.service.retired_flights ≡ true = subst (RetiredBy w) q.is x in
+      let y : is_one_of (flight_number m.acts.owner.number q.opening.ask.flight) w.service.retired_flights ≡ true = subst (RetiredBy w) q.is x in
       let i = opening_has book job q.opening q.opened in
       record {
         opening = q.opening;
         opened = opening grows s q.opening i.0;
         job_is = i.1;
-        retired = subst (λ n. has_number (flight_number n q.opening.ask.flight) w.service.retired_flights ≡ true) number_is y;
+        retired = subst (λ n. is_one_of (flight_number n q.opening.ask.flight) w.service.retired_flights ≡ true) number_is y;
       }
 
-  lose_ticket : (job : ℕ) → LosesByReply m.owner a.event job → has_number (ticket_number s job) w.service.retired_tickets ≡ true
+  lose_ticket : (job : ℕ) → LosesByReply m.acts.owner a.event job → is_one_of (ticket_number s job) w.service.retired_tickets ≡ true
   lose_ticket job h =
-      let ask = ticket_remove m.owner job in
-      let x : has_number (ticket_number m.owner.number job) w.service.retired_tickets ≡ true = ticket_retired_by job ask h.reply (came_reply job ask h.reply h.answers) h.removed in
-      subst (λ n. has_number (ticket_number n job) w.service.retired_tickets ≡ true) number_is x
+      let ask = ticket_remove m.acts.owner job in
+      let x : is_one_of (ticket_number m.acts.owner.number job) w.service.retired_tickets ≡ true = ticket_retired_by job ask h.reply (came_reply job ask h.reply h.answers) h.removed in
+      subst (λ n. is_one_of (ticket_number n job) w.service.retired_tickets ≡ true) number_is x
 
   ends_or_not : {P : Type 0} (end : Ending) → EndsFlight end → is_ended end ≡ false → P
   ends_or_not (Ends.Conflict flight manager rule) h e = absurd h
@@ -481,8 +482,8 @@ module _ (table : List ℕ) (owners : List Owner) (w : World) (names : AreSuppli
   ends_or_not Ends.Cancelled h e = absurd h
   ends_or_not (Ends.Ended owed) h e = cc
 
-  lands_nothing : (job : ℕ) (end : Ending) (wish : Wish) → EndsWish book job end wish → EndsAs m.owner book a.event job end → is_ended end ≡ false
-      → IsUntried (book ++ Enters.Done job end ∷ []) job ⊎ (has_number (ticket_number s job) w.service.retired_tickets ≡ true)
+  lands_nothing : (job : ℕ) (end : Ending) (wish : Wish) → EndsWish book job end wish → EndsAs m.acts.owner book a.event job end → is_ended end ≡ false
+      → IsUntried (book ++ Enters.Done job end ∷ []) job ⊎ (is_one_of (ticket_number s job) w.service.retired_tickets ≡ true)
   unfolding trials_of
   lands_nothing job end (Wishes.Put to priority rounds proposals) (inl decided) r e =
       let some : is_some (decision_of job book) ≡ true = ap is_some decided in
@@ -495,18 +496,18 @@ module _ (table : List ℕ) (owners : List Owner) (w : World) (names : AreSuppli
 
   pub record EndShows (entry : Entry) (d : Closing) : Type 0 where
     pub ends : is_ended d.end ≡ true → IsFlightRetired v s d.job
-    pub nothing : is_ended d.end ≡ false → IsUntried (book ++ entry ∷ []) d.job ⊎ (has_number (ticket_number s d.job) w.service.retired_tickets ≡ true)
+    pub nothing : is_ended d.end ≡ false → IsUntried (book ++ entry ∷ []) d.job ⊎ (is_one_of (ticket_number s d.job) w.service.retired_tickets ≡ true)
 
-  end_shows : (e : Entry) → RemovalIsShown m.owner book a.event e → MayFollow book e → (d : Closing) → Has (endings (e ∷ [])) d → EndShows e d
+  end_shows : (e : Entry) → RemovalIsShown m.acts.owner book a.event e → MayFollow book e → (d : Closing) → Has (endings (e ∷ [])) d → EndShows e d
   end_shows (Enters.Done job end) r l d (inl q) =
       subst (EndShows (Enters.Done job end)) q (record { ends = λ e. end_flight job (r.0 e); nothing = λ e. lands_nothing job end l.due.opening.ask.wish l.due.wish r e })
   end_shows (Enters.Done job end) r l d (inr n) = absurd n
   end_shows _ r l d h = absurd h
 
   ending_after : (d : Closing) → Has (endings after) d → Has (endings book) d ⊎ EndingShows v s d
-  ending_after d h = go c.entry refl m.removals m.legal h
+  ending_after d h = go c.entry refl m.acts.removals m.acts.legal h
     where
-      go : (entry : Option Entry) → c.entry ≡ entry → IfSome entry (RemovalIsShown m.owner book a.event) → IfSome entry (MayFollow book) → Has (endings (book_after book entry)) d → Has (endings book) d ⊎ EndingShows v s d
+      go : (entry : Option Entry) → c.entry ≡ entry → IfSome entry (RemovalIsShown m.acts.owner book a.event) → IfSome entry (MayFollow book) → Has (endings (book_after book entry)) d → Has (endings book) d ⊎ EndingShows v s d
       go None e r l h = inl h
       go (Some x) e r l h = elim (which_ending book (x ∷ []) d h) [
         | inl old ↦ inl old
@@ -520,7 +521,7 @@ module _ (table : List ℕ) (owners : List Owner) (w : World) (names : AreSuppli
       ]
 
   -- what is said
-  keeps_answer : (o : Opening) (answer : Answer) → kept_answer m.owner o after ≡ Some answer → IsByHolding after s o answer ⊎ IsByClosing after s o answer
+  keeps_answer : (o : Opening) (answer : Answer) → kept_answer m.acts.owner o after ≡ Some answer → IsByHolding after s o answer ⊎ IsByClosing after s o answer
   unfolding kept_answer holding_of ending_of
   keeps_answer o answer h = go (holding_of o.job after) refl (ending_of o.job after) refl (subst (λ n. by_close after (flight_number n o.ask.flight) (holding_of o.job after) (ending_of o.job after) ≡ Some answer) number_is h)
     where
@@ -568,7 +569,7 @@ module _ (table : List ℕ) (owners : List Owner) (w : World) (names : AreSuppli
   named (Events.Details client flight) o h = cc
   named (Events.Notified client note) o h = cc
 
-  says : (said : Said) → FinalIsKept m.owner after a.event said → SaidIsKept after s (request_named a.event after).0 (request_named a.event after).1 said
+  says : (said : Said) → FinalIsKept m.acts.owner after a.event said → SaidIsKept after s (request_named a.event after).0 (request_named a.event after).1 said
   says (Says.Answer answer) f = λ final. (let k = f final in let n = named a.event k.opening k.named in record {
     opening = k.opening;
     opened = n.there;
@@ -581,7 +582,7 @@ module _ (table : List ℕ) (owners : List Owner) (w : World) (names : AreSuppli
   new_saying : (x : Saying) → saying_of a c after ≡ x → SaidIsKept (book_of x.supplier v) x.supplier x.flight x.number x.said
   new_saying x e =
       subst (λ (z : Saying). SaidIsKept (book_of z.supplier v) z.supplier z.flight z.number z.said) e
-      (subst (λ b. SaidIsKept b s (request_named a.event after).0 (request_named a.event after).1 c.said) (sym after_is) (says c.said m.final))
+      (subst (λ b. SaidIsKept b s (request_named a.event after).0 (request_named a.event after).1 c.said) (sym after_is) (says c.said m.acts.final))
 
   sound : (k : ℕ) (x : Supplier) → supplier_in k v.suppliers ≡ Some x → IsSound owners x
   sound k = at_each s (stepped c) w.suppliers own.0 (λ x. refl) st.is k (λ o. (x : Supplier) → o ≡ Some x → IsSound owners x) (λ e x f. here x f) (j.suppliers k)

@@ -2,6 +2,8 @@
 use Rattle.std.proofs.Common.{ℕ, ◌≡◌, inl, inr, ◌==◌, ◌&&◌, Bool, true, false, cond, List, [], ◌∷◌, refl, ap, sym, subst, ◌∙◌, Option, Some, None, is_none}
 use Rattle.uss_intent.specs.Identifiers.{flight_number}
 use Rattle.uss_intent.specs.declared.records.Landing.{Landing}
+use Rattle.uss_intent.specs.Numbers.{is_one_of}
+use Rattle.uss_law_duty.specs.Duties.{Choice}
 use Rattle.uss_event.specs.declared.entries.Owner.{Owner}
 use Rattle.uss_event.specs.declared.entries.Ending.{Ending}
 use Rattle.uss_event.specs.declared.entries.Ending.TheVariants as Ends
@@ -12,7 +14,6 @@ use Rattle.uss_event.specs.declared.events.Said.TheVariants as Says
 use Rattle.uss_event.specs.declared.steps.Stopped.{Stopped}
 use Rattle.uss_event.specs.declared.steps.Stopped.TheVariants as Turns
 use Rattle.uss_law_dss.specs.Lists.{Has}
-use Rattle.uss_law_dss.specs.Service.{has_number}
 use Rattle.uss_law_dss.proofs.Lists.{has_left, find_has}
 use Rattle.uss_law_dss.proofs.Tests.{some_same, both, and_true, same_number, equal_number}
 use Rattle.uss_law_book.specs.Lists.{Opening, Trial, Holding, openings, trials, holdings}
@@ -24,7 +25,7 @@ use Rattle.uss_law_book.proofs.EachOrderly.{legal_is_orderly}
 use Rattle.uss_law_duty.specs.Answers.{by_end, job_of_request}
 use Rattle.uss_law_world.specs.World.{Post, Saying, World, book_of, post_at}
 use Rattle.uss_law_world.specs.World.Post.{Called, Replied, Asked, Answered}
-use Rattle.uss_law_world.specs.Moves.{Choice, Move, Arrival, arrival_by, arrival_of, arrives, brings, comes, takes, next_message, delivers_next, drains, marked_by, after_restart, after_step, stops, happens, run, fault_of}
+use Rattle.uss_law_world.specs.Moves.{Move, Arrival, arrival_by, arrival_of, arrives, brings, comes, takes, next_message, delivers_next, drains, marked_by, after_restart, after_step, stops, happens, run, fault_of}
 use Rattle.uss_law_world.specs.Moves.{Move as Moves}
 use Rattle.uss_law_world.specs.Free.{AreSuppliers}
 use Rattle.uss_law_world.specs.Claims.{IsLandingOf, IsRecordedSo, IsTrueAnswer, IsTrueOfRequest, SaysTrue}
@@ -125,11 +126,11 @@ module _ (table : List ℕ) (owners : List Owner) (w : World) (names : AreSuppli
       nothing : is_ended b.closing.end ≡ false → (l : Landing) → IsLandingOf w s o.job l → ⊥
       nothing e l h = nothing_lands table owners w names j s b.closing b.entered e l (subst (λ n. IsLandingOf w s n l) (sym b.job) h)
 
-      ended : is_ended b.closing.end ≡ true → has_number (flight_number s o.ask.flight) w.service.retired_flights ≡ true
+      ended : is_ended b.closing.end ≡ true → is_one_of (flight_number s o.ask.flight) w.service.retired_flights ≡ true
       ended e =
           let f = (j.closed s b.closing b.entered).ends e in
           let same : f.opening ≡ o = r.jobs f.opening o f.opened i (f.job_is ∙ b.job) in
-          subst (λ (z : Opening). has_number (flight_number s z.ask.flight) w.service.retired_flights ≡ true) same f.retired
+          subst (λ (z : Opening). is_one_of (flight_number s z.ask.flight) w.service.retired_flights ≡ true) same f.retired
 
       go : (end : Ending) → b.closing.end ≡ end → IsTrueAnswer w s o.job (by_end (flight_number s o.ask.flight) end)
       go (Ends.Conflict flight manager rule) e = nothing (ap is_ended e)

@@ -8,13 +8,13 @@ use Rattle.uss_intent.specs.declared.records.Recorded.{Recorded}
 use Rattle.uss_intent.specs.declared.records.Reference.{Reference}
 use Rattle.uss_intent.specs.declared.records.Landing.{Landing}
 use Rattle.uss_intent.specs.declared.records.State.{State}
+use Rattle.uss_intent.specs.Numbers.{is_one_of}
 use Rattle.uss_event.specs.Pairs.{OperationalIntent}
 use Rattle.uss_event.specs.declared.asks.Wish.{Wish}
 use Rattle.uss_event.specs.declared.asks.Wish.TheVariants.{Put, End}
 use Rattle.uss_event.specs.declared.entries.Owner.{Owner}
 use Rattle.uss_event.specs.Plans as Plans
 use Rattle.uss_law_dss.specs.Lists.{Has}
-use Rattle.uss_law_dss.specs.Service.{has_number}
 use Rattle.uss_law_dss.specs.Orderly.{IsAsLanded}
 use Rattle.uss_law_dss.proofs.Lists.{list_any_has}
 use Rattle.uss_law_dss.proofs.Tests.{same_number, some_same, not_both, either}
@@ -61,7 +61,7 @@ no_wish a owner opening trial End e h = cc
 
 module _ (table : List ℕ) (owners : List Owner) (w : World) (names : AreSuppliers table owners) (j : Facts table owners w) where
   -- a flight that has ended is retired
-  pub ended_is_retired : (s flight : ℕ) → has_ended flight (book_of s w) ≡ true → has_number (flight_number s flight) w.service.retired_flights ≡ true
+  pub ended_is_retired : (s flight : ℕ) → has_ended flight (book_of s w) ≡ true → is_one_of (flight_number s flight) w.service.retired_flights ≡ true
   ended_is_retired s flight h =
       let x = ended_tells (book_of s w) flight h in
       let st = by_closing table owners w names j s x.closing x.entered in
@@ -69,7 +69,7 @@ module _ (table : List ℕ) (owners : List Owner) (w : World) (names : AreSuppli
       let f = (j.closed s x.closing x.entered).ends x.is in
       let same : f.opening ≡ x.opening = o.jobs f.opening x.opening f.opened x.opened (f.job_is ∙ sym x.job) in
       let g : f.opening.ask.flight ≡ flight = ap (λ (z : Opening). z.ask.flight) same ∙ x.flight_is in
-      subst (λ n. has_number (flight_number s n) w.service.retired_flights ≡ true) g f.retired
+      subst (λ n. is_one_of (flight_number s n) w.service.retired_flights ≡ true) g f.retired
 
   module _ (s flight : ℕ) (small : flight < 2 ^ 64) (free : open_job_of flight (book_of s w) ≡ None) (live : has_ended flight (book_of s w) ≡ false) where
     -- a closed job recorded something, or ended
@@ -159,7 +159,7 @@ module _ (table : List ℕ) (owners : List Owner) (w : World) (names : AreSuppli
         cc
 
     -- the flight isn't retired
-    not_retired : (h : Holding) → Has (holdings (book_of s w)) h → has_number (flight_number s flight) w.service.retired_flights ≡ true → ⊥
+    not_retired : (h : Holding) → Has (holdings (book_of s w)) h → is_one_of (flight_number s flight) w.service.retired_flights ≡ true → ⊥
     not_retired h entered gone =
         let t = j.retired (flight_number s flight) gone in
         let st = by_opening table owners w names j t.s t.ends.opening t.ends.opened in
@@ -242,7 +242,7 @@ module _ (table : List ℕ) (owners : List Owner) (w : World) (names : AreSuppli
             let g : m.landing.flight ≡ flight_number s flight = f ∙ ap (flight_number s) x.flight_is in
             let is : p ≡ recorded_as x.attempt h.ovn h.version = some_same p (recorded_as x.attempt h.ovn h.version) (sym k ∙ x.is) in
             elim (j.service.there m.landing m.landed) [
-              | inl gone ↦ absurd (not_retired h x.entered (subst (λ n. has_number n w.service.retired_flights ≡ true) g gone))
+              | inl gone ↦ absurd (not_retired h x.entered (subst (λ n. is_one_of n w.service.retired_flights ≡ true) g gone))
               | inr r ↦ (r.0, r.1, (same_as h x.attempt x.found m r.0 r.1 (r.2 ∙ g) last).0 ∙ ap (λ (z : OperationalIntent). z.reference) (sym is), (same_as h x.attempt x.found m r.0 r.1 (r.2 ∙ g) last).1 ∙ ap (λ (z : OperationalIntent). Plans.extents_of z.details) (sym is))
             ]
 

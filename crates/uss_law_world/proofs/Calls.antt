@@ -17,10 +17,12 @@ use Rattle.uss_intent.specs.declared.calls.DssReply.{DssReply}
 use Rattle.uss_intent.specs.declared.calls.DssReply.TheVariants as Replies
 use Rattle.uss_intent.specs.declared.calls.DssRefusal.{DssRefusal}
 use Rattle.uss_intent.specs.declared.calls.DssRefusal.TheVariants as Refuses
+use Rattle.uss_intent.specs.States.{is_strategic}
+use Rattle.uss_intent.specs.Numbers.{is_one_of}
 use Rattle.uss_event.specs.declared.entries.Owner.{Owner}
 use Rattle.uss_event.specs.declared.calls.DssCall.{DssCall}
 use Rattle.uss_law_dss.specs.Lists.{Has}
-use Rattle.uss_law_dss.specs.Service.{Service, has_number, recorded_of, ticket_of, shown_to, is_keyed, relevant, in_key}
+use Rattle.uss_law_dss.specs.Service.{Service, recorded_of, ticket_of, shown_to, relevant, in_key}
 use Rattle.uss_law_dss.specs.Refusals.{is_cited, refusal_of}
 use Rattle.uss_law_dss.specs.Step.{put_recorded, landed, landing_of, after_put, after_remove, after_ticket_put, after_ticket_remove, service_step}
 use Rattle.uss_law_dss.specs.Effects.{Effect, Lands, Stays, TellsNoChange}
@@ -55,30 +57,30 @@ or_first true h = refl
 or_first false h = h
 
 -- the identifier that makes the difference
-pushed_is : (n m : ℕ) (ns : List ℕ) → has_number n ns ≡ false → has_number n (ns ++ m ∷ []) ≡ true → m ≡ n
+pushed_is : (n m : ℕ) (ns : List ℕ) → is_one_of n ns ≡ false → is_one_of n (ns ++ m ∷ []) ≡ true → m ≡ n
 pushed_is n m [] e h = same_number m n (or_first (m == n) h)
-pushed_is n m (x ∷ ns) e h = let f = neither (x == n) (has_number n ns) e in pushed_is n m ns f.1 (either (x == n) (has_number n (ns ++ m ∷ [])) h f.0)
+pushed_is n m (x ∷ ns) e h = let f = neither (x == n) (is_one_of n ns) e in pushed_is n m ns f.1 (either (x == n) (is_one_of n (ns ++ m ∷ [])) h f.0)
 
 -- what is to be shown of a call that the service takes, with this reply and this state after it
 pub record Taken (table : List ℕ) (owners : List Owner) (w : World) (k s : ℕ) (call : DssCall) (out : DssReply × Service) : Type 0 where
   pub service : IsOrderly out.1
   pub keeps_landings : (l : Landing) → Has w.service.landings l → Has out.1.landings l
   pub keeps_ranks : (flight : ℕ) (l : Landing) → Has w.service.landings l → rank_of flight l.ovn out.1.landings ≡ rank_of flight l.ovn w.service.landings
-  pub keeps_flights : (n : ℕ) → has_number n w.service.retired_flights ≡ true → has_number n out.1.retired_flights ≡ true
-  pub keeps_tickets : (n : ℕ) → has_number n w.service.retired_tickets ≡ true → has_number n out.1.retired_tickets ≡ true
+  pub keeps_flights : (n : ℕ) → is_one_of n w.service.retired_flights ≡ true → is_one_of n out.1.retired_flights ≡ true
+  pub keeps_tickets : (n : ℕ) → is_one_of n w.service.retired_tickets ≡ true → is_one_of n out.1.retired_tickets ≡ true
   pub shows : ReplyShows (after_call w k s call out) s call.job call.ask out.0
   pub landings : (l : Landing) → Has out.1.landings l → Has w.service.landings l ⊎ LandingFrom (after_call w k s call out) l
   pub recorded : (r : Recorded) → Has out.1.references r → Has w.service.references r ⊎ RecordedFrom (after_call w k s call out) r
   pub apart : (r q : Recorded) → Has out.1.references r → Has out.1.references q → (Has w.service.references r × Has w.service.references q) ⊎ AreApart table (after_call w k s call out) r q
   pub standing : (l : Landing) → Has out.1.landings l → IsStanding (after_call w k s call out) l
-  pub retired : (n : ℕ) → has_number n out.1.retired_flights ≡ true → (has_number n w.service.retired_flights ≡ true) ⊎ IsToEnd (after_call w k s call out) n
+  pub retired : (n : ℕ) → is_one_of n out.1.retired_flights ≡ true → (is_one_of n w.service.retired_flights ≡ true) ⊎ IsToEnd (after_call w k s call out) n
 
 -- the world grows by it
 record Keeps (w : World) (out : DssReply × Service) : Type 0 where
   landings : (l : Landing) → Has w.service.landings l → Has out.1.landings l
   ranks : (flight : ℕ) (l : Landing) → Has w.service.landings l → rank_of flight l.ovn out.1.landings ≡ rank_of flight l.ovn w.service.landings
-  flights : (n : ℕ) → has_number n w.service.retired_flights ≡ true → has_number n out.1.retired_flights ≡ true
-  tickets : (n : ℕ) → has_number n w.service.retired_tickets ≡ true → has_number n out.1.retired_tickets ≡ true
+  flights : (n : ℕ) → is_one_of n w.service.retired_flights ≡ true → is_one_of n out.1.retired_flights ≡ true
+  tickets : (n : ℕ) → is_one_of n w.service.retired_tickets ≡ true → is_one_of n out.1.retired_tickets ≡ true
 
 call_grows : (w : World) (k s : ℕ) (call : DssCall) (out : DssReply × Service) → Keeps w out → Grows w (after_call w k s call out)
 call_grows w k s call out t =
@@ -155,11 +157,11 @@ module _ (table : List ℕ) (owners : List Owner) (w : World) (names : AreSuppli
     pub fields : (l.flight ≡ a.flight) × (l.ovn ≡ a.previous) × (l.extents ≡ extents_of a) × (l.key ≡ a.key) × (l.state ≡ a.state) × (l.base ≡ a.base) × (l.ticket ≡ a.ticket)
     fields = put_is l.flight l.ovn l.extents l.key l.state l.base l.ticket a (sym l.is)
 
-    pub keyed : is_keyed a.state ≡ true → (r : Recorded) → Has (relevant a.flight (extents_of a) w.service) r → in_key a.key r.reference ≡ true
+    pub keyed : is_strategic a.state ≡ true → (r : Recorded) → Has (relevant a.flight (extents_of a) w.service) r → in_key a.key r.reference ≡ true
     keyed e r h =
         let x : Has (relevant l.flight l.extents w.service) r =
         subst (λ z. Has (relevant z l.extents w.service) r) (sym fields.0) (subst (λ (z : List Volume4D). Has (relevant a.flight z w.service) r) (sym fields.2) h) in
-        subst (λ (z : List (List ℕ)). in_key z r.reference ≡ true) fields.3 (l.keyed (subst (λ z. is_keyed z ≡ true) (sym fields.4) e) r x)
+        subst (λ (z : List (List ℕ)). in_key z r.reference ≡ true) fields.3 (l.keyed (subst (λ z. is_strategic z ≡ true) (sym fields.4) e) r x)
 
     tag : unwrap_or (tag_of a.base) 0 ≡ a.tag
     tag = base_tag table owners w names j s a.tag a found
@@ -279,11 +281,11 @@ module _ (table : List ℕ) (owners : List Owner) (w : World) (names : AreSuppli
 module _ (table : List ℕ) (owners : List Owner) (w : World) (names : AreSuppliers table owners) (j : Facts table owners w) (k s : ℕ) (call : DssCall) where
   -- a call that lands nothing: fewer references, the same landings
   module _ (out : DssReply × Service) (orderly : IsOrderly out.1) (same : out.1.landings ≡ w.service.landings) (fewer : (r : Recorded) → Has out.1.references r → Has w.service.references r)
-      (flights : (n : ℕ) → has_number n w.service.retired_flights ≡ true → has_number n out.1.retired_flights ≡ true)
-      (tickets : (n : ℕ) → has_number n w.service.retired_tickets ≡ true → has_number n out.1.retired_tickets ≡ true)
+      (flights : (n : ℕ) → is_one_of n w.service.retired_flights ≡ true → is_one_of n out.1.retired_flights ≡ true)
+      (tickets : (n : ℕ) → is_one_of n w.service.retired_tickets ≡ true → is_one_of n out.1.retired_tickets ≡ true)
       (shows : ReplyShows (after_call w k s call out) s call.job call.ask out.0)
       (standing : (l : Landing) → Has w.service.landings l → IsStanding (after_call w k s call out) l)
-      (retired : (n : ℕ) → has_number n out.1.retired_flights ≡ true → (has_number n w.service.retired_flights ≡ true) ⊎ IsToEnd (after_call w k s call out) n) where
+      (retired : (n : ℕ) → is_one_of n out.1.retired_flights ≡ true → (is_one_of n w.service.retired_flights ≡ true) ⊎ IsToEnd (after_call w k s call out) n) where
     pub quiet_taken : Taken table owners w k s call out
     quiet_taken =
         record {
@@ -336,12 +338,12 @@ module _ (table : List ℕ) (owners : List Owner) (w : World) (names : AreSuppli
     shows_gone : RetiredBy (after_call w k s call gone) call.ask
     shows_gone =
         subst (RetiredBy (after_call w k s call gone)) (sym is)
-        (subst (λ n. has_number n (w.service.retired_flights ++ r.reference.flight ∷ []) ≡ true) (same_number r.reference.flight flight there.1) (pushed_in r.reference.flight w.service.retired_flights))
+        (subst (λ n. is_one_of n (w.service.retired_flights ++ r.reference.flight ∷ []) ≡ true) (same_number r.reference.flight flight there.1) (pushed_in r.reference.flight w.service.retired_flights))
 
-    retired_gone : (n : ℕ) → has_number n (w.service.retired_flights ++ r.reference.flight ∷ []) ≡ true → (has_number n w.service.retired_flights ≡ true) ⊎ IsToEnd (after_call w k s call gone) n
-    retired_gone n h = go (has_number n w.service.retired_flights) refl
+    retired_gone : (n : ℕ) → is_one_of n (w.service.retired_flights ++ r.reference.flight ∷ []) ≡ true → (is_one_of n w.service.retired_flights ≡ true) ⊎ IsToEnd (after_call w k s call gone) n
+    retired_gone n h = go (is_one_of n w.service.retired_flights) refl
       where
-        go : (x : Bool) → has_number n w.service.retired_flights ≡ x → (has_number n w.service.retired_flights ≡ true) ⊎ IsToEnd (after_call w k s call gone) n
+        go : (x : Bool) → is_one_of n w.service.retired_flights ≡ x → (is_one_of n w.service.retired_flights ≡ true) ⊎ IsToEnd (after_call w k s call gone) n
         go true e = inl e
         go false e =
             let same : r.reference.flight ≡ n = pushed_is n r.reference.flight w.service.retired_flights e h in
@@ -364,11 +366,11 @@ module _ (table : List ℕ) (owners : List Owner) (w : World) (names : AreSuppli
       → Taken table owners w k s call (after_ticket_remove w.service t)
   ticket_remove_taken id t is found o =
       let out = after_ticket_remove w.service t in
-      let tickets : (n : ℕ) → has_number n w.service.retired_tickets ≡ true → has_number n (w.service.retired_tickets ++ t.id ∷ []) ≡ true = λ n h. pushed_before n t.id w.service.retired_tickets h in
+      let tickets : (n : ℕ) → is_one_of n w.service.retired_tickets ≡ true → is_one_of n (w.service.retired_tickets ++ t.id ∷ []) ≡ true = λ n h. pushed_before n t.id w.service.retired_tickets h in
       let g = call_grows w k s call out (record { landings = λ l h. h; ranks = λ flight l h. refl; flights = λ n h. h; tickets = tickets }) in
       let e : t.id ≡ id = same_number t.id id (find_has (λ (z : Ticket). z.id == id) w.service.tickets t found).1 in
       let shows : RetiredBy (after_call w k s call out) call.ask =
-      subst (RetiredBy (after_call w k s call out)) (sym is) (subst (λ n. has_number n (w.service.retired_tickets ++ t.id ∷ []) ≡ true) e (pushed_in t.id w.service.retired_tickets)) in
+      subst (RetiredBy (after_call w k s call out)) (sym is) (subst (λ n. is_one_of n (w.service.retired_tickets ++ t.id ∷ []) ≡ true) e (pushed_in t.id w.service.retired_tickets)) in
       quiet_taken out o refl (λ q h. h) (λ n h. h) tickets shows (still out g (λ r h. h)) (λ n h. inl h)
 
   -- a reference that is got shows a landing of its manager
@@ -473,13 +475,13 @@ module _ (table : List ℕ) (owners : List Owner) (w : World) (names : AreSuppli
 
   pub stays_taken : CallFrom w s call.job call.ask → (out : DssReply × Service) → IsOrderly out.1 → Tells w.service (name_of s w) call.ask out.0 → Stays w.service out → Taken table owners w k s call out
   stays_taken p out o t st =
-      let keeps_flights : (n : ℕ) → has_number n w.service.retired_flights ≡ true → has_number n out.1.retired_flights ≡ true = λ n h. subst (λ (z : Service). has_number n z.retired_flights ≡ true) (sym st.same) h in
-      let keeps_tickets : (n : ℕ) → has_number n w.service.retired_tickets ≡ true → has_number n out.1.retired_tickets ≡ true = λ n h. subst (λ (z : Service). has_number n z.retired_tickets ≡ true) (sym st.same) h in
+      let keeps_flights : (n : ℕ) → is_one_of n w.service.retired_flights ≡ true → is_one_of n out.1.retired_flights ≡ true = λ n h. subst (λ (z : Service). is_one_of n z.retired_flights ≡ true) (sym st.same) h in
+      let keeps_tickets : (n : ℕ) → is_one_of n w.service.retired_tickets ≡ true → is_one_of n out.1.retired_tickets ≡ true = λ n h. subst (λ (z : Service). is_one_of n z.retired_tickets ≡ true) (sym st.same) h in
       let same : out.1.landings ≡ w.service.landings = ap (λ (z : Service). z.landings) st.same in
       let g = call_grows w k s call out (record { landings = λ l h. subst (λ (ls : List Landing). Has ls l) (sym same) h; ranks = λ flight l h. ap (rank_of flight l.ovn) same; flights = keeps_flights; tickets = keeps_tickets }) in
       quiet_taken out o same (λ r h. subst (λ (z : Service). Has z.references r) st.same h) keeps_flights keeps_tickets
       (reply_shows g s call.job call.ask out.0 (stays_shows call.ask p out.0 t st.reply))
-      (still out g (λ r h. subst (λ (z : Service). Has z.references r) (sym st.same) h)) (λ n h. inl (subst (λ (z : Service). has_number n z.retired_flights ≡ true) st.same h))
+      (still out g (λ r h. subst (λ (z : Service). Has z.references r) (sym st.same) h)) (λ n h. inl (subst (λ (z : Service). is_one_of n z.retired_flights ≡ true) st.same h))
 
 -- a call that was sent
 

@@ -8,14 +8,15 @@ use Rattle.uss_vol4.proofs.Share.{shares_tells, any_shares_tells}
 use Rattle.uss_intent.specs.declared.records.State.{State}
 use Rattle.uss_intent.specs.declared.records.State.TheVariants.{Accepted, Activated, Nonconforming, Contingent}
 use Rattle.uss_intent.specs.declared.records.Recorded.{Recorded}
-use Rattle.uss_event.specs.Rules.{is_listed}
+use Rattle.uss_intent.specs.States.{is_strategic}
+use Rattle.uss_intent.specs.Numbers.{is_one_of}
 use Rattle.uss_event.specs.Pairs.{OperationalIntent}
-use Rattle.uss_event.specs.Verdicts.{verdict, forbidden, higher, meet, is_strategic, is_activated, is_excepted}
+use Rattle.uss_event.specs.Verdicts.{verdict, forbidden, higher, meet, is_activated, is_excepted}
 use Rattle.uss_event.specs.declared.rules.Verdict.TheVariants.{Clear, EqualForbidden, HigherStands}
 use Rattle.uss_event.specs.declared.details.Candidate.{Candidate}
 use Rattle.uss_event.specs.declared.entries.Owner.{Owner}
 use Rattle.uss_law_dss.specs.Lists.{Has}
-use Rattle.uss_law_dss.specs.Service.{is_keyed, relevant, in_key, has_ovn, recorded_of}
+use Rattle.uss_law_dss.specs.Service.{relevant, in_key, has_ovn, recorded_of}
 use Rattle.uss_law_dss.proofs.Lists.{list_any_has, any_true, has_filtered, find_has}
 use Rattle.uss_law_dss.proofs.Tests.{both, and_true, not_both, equal_number, unequal_number, less_test, same_bytes}
 use Rattle.uss_law_book.specs.Attempts.{Attempted, attempt_of, extents_of, recorded_as}
@@ -49,7 +50,7 @@ forbidden_sym table a b f =
       second = f.first;
       flights = λ e. f.flights (sym e);
       priority = sym f.priority;
-      listed = subst (λ n. is_listed n table ≡ true) f.priority f.listed;
+      listed = subst (λ n. is_one_of n table ≡ true) f.priority f.listed;
       share = lists_share_sym (extents_of a) (extents_of b) f.share;
     }
 
@@ -75,9 +76,9 @@ meets a b ovn version s t d h =
 
 forbidden_is : (table : List ℕ) (a b : Attempted) (ovn : List ℕ) (version : ℕ) → Forbidden table a b → forbidden table (candidate_of a) (recorded_as b ovn version) ≡ true
 forbidden_is table a b ovn version f =
-    and_true (meet (candidate_of a) (recorded_as b ovn version)) ((a.details.priority == b.details.priority) && is_listed a.details.priority table)
+    and_true (meet (candidate_of a) (recorded_as b ovn version)) ((a.details.priority == b.details.priority) && is_one_of a.details.priority table)
     (meets a b ovn version f.first f.second f.flights f.share)
-    (and_true (a.details.priority == b.details.priority) (is_listed a.details.priority table) (equal_number a.details.priority b.details.priority f.priority) f.listed)
+    (and_true (a.details.priority == b.details.priority) (is_one_of a.details.priority table) (equal_number a.details.priority b.details.priority f.priority) f.listed)
 
 higher_is : (a b : Attempted) (ovn : List ℕ) (version : ℕ) (replaced : Option Attempted) (previous : Option OperationalIntent) → Higher replaced a b
     → is_excepted (candidate_of a) (recorded_as b ovn version) previous ≡ false → higher (candidate_of a) (recorded_as b ovn version) previous ≡ true
@@ -85,12 +86,6 @@ higher_is a b ovn version replaced previous f e =
     and_true (meet (candidate_of a) (recorded_as b ovn version)) (nat_lt a.details.priority b.details.priority && not (is_excepted (candidate_of a) (recorded_as b ovn version) previous))
     (meets a b ovn version f.first f.second f.flights f.share)
     (and_true (nat_lt a.details.priority b.details.priority) (not (is_excepted (candidate_of a) (recorded_as b ovn version) previous)) (less_test a.details.priority b.details.priority f.less) (ap not e))
-
-strategic_is_keyed : (s : State) → is_strategic s ≡ true → is_keyed s ≡ true
-strategic_is_keyed Accepted h = refl
-strategic_is_keyed Activated h = refl
-strategic_is_keyed Nonconforming h = cc
-strategic_is_keyed Contingent h = cc
 
 activated_is : (s : State) → is_activated s ≡ true → s ≡ Activated
 activated_is Accepted h = cc
@@ -121,7 +116,7 @@ pub record IsClearOf (table : List ℕ) (w : World) (a b : Attempted) : Type 0 w
 module _ (table : List ℕ) (owners : List Owner) (w : World) (names : AreSuppliers table owners) (j : Facts table owners w) where
   -- what the discovery service asked for
   abbrev pub IsKeyed : Attempted → Type 0
-  IsKeyed a = is_keyed a.state ≡ true → (r : Recorded) → Has (relevant a.flight (extents_of a) w.service) r → in_key a.key r.reference ≡ true
+  IsKeyed a = is_strategic a.state ≡ true → (r : Recorded) → Has (relevant a.flight (extents_of a) w.service) r → in_key a.key r.reference ≡ true
 
   pub key_clear : (s tag : ℕ) (a : Attempted) → attempt_of tag (book_of s w) ≡ Some a → IsKeyed a → (q : Recorded) → Has w.service.references q → (f : RecordedFrom w q)
       → is_strategic a.state ≡ true → a.flight ≢ f.attempt.flight → ListsShare (extents_of a) (extents_of f.attempt) → IsClearOf table w a f.attempt
@@ -132,7 +127,7 @@ module _ (table : List ℕ) (owners : List Owner) (w : World) (names : AreSuppli
       let rel : Has (relevant a.flight (extents_of a) w.service) q =
       has_filtered (λ r. not (r.reference.flight == a.flight) && any_shares r.extents (extents_of a)) w.service.references q h
       (and_true (not (q.reference.flight == a.flight)) (any_shares q.extents (extents_of a)) (ap not other) sh) in
-      let o = list_any_has (λ x. has_ovn q.reference.ovn x) a.key (keyed (strategic_is_keyed a.state strategic) q rel) in
+      let o = list_any_has (λ x. has_ovn q.reference.ovn x) a.key (keyed strategic q rel) in
       let c = j.keys s tag a found strategic o.0 o.1 in
       let m = c.made in
       let e : Some m.ovn ≡ Some o.0 = made_ovn c.pair m ∙ c.ovn_is in

@@ -22,7 +22,7 @@ use Rattle.uss_law_book.specs.Readings.{is_open, opening_of, is_held, is_done, t
 use Rattle.uss_law_book.specs.Attempts.{Attempted, attempted, attempt_of, put_of, held}
 use Rattle.uss_law_book.specs.Reserve.{need, reserved}
 use Rattle.uss_law_book.specs.Legal.{MayDecide, MayEnd, MayFollow}
-use Rattle.uss_law_duty.specs.Duties.{MayStep}
+use Rattle.uss_law_duty.specs.Duties.{MayStep, clamped}
 use Rattle.uss_law_duty.specs.Sends.{OfDss, OfPeer, RecordsAreDue, TicketsAreDue, RemovalsAreDue, NotesAreHeld, IsTicketRemoveOf}
 use Rattle.uss_law_duty.specs.Entered.{shown_tag, IsPutWith, HoldsByReply}
 use Rattle.uss_law_duty.specs.Answers.{kept_answer}
@@ -31,7 +31,7 @@ use Rattle.uss_law_duty.specs.Worked.{now, owner, volume, proposal, ask, flight,
 use Rattle.uss_law_duty.proofs.Worked.{each_one, none_sent, recorded_follows}
 use Rattle.uss_law_duty.proofs.Worked as May
 use Rattle.uss_law_world.specs.World.{supplier_in, start}
-use Rattle.uss_law_world.specs.Moves.{clamped, run}
+use Rattle.uss_law_world.specs.Moves.{run}
 use Rattle.uss_law_world.specs.Free.{IsFree}
 use Rattle.uss_law_world.specs.Worked.{said_in, replies_in, second, second_tried_book, hidden}
 use Rattle.uss_law_world.specs.Contested.{second_subscriber, landed_told, recorded_owing, owing_book, details, asks_details, heard_first, in_conflict, conflict, deciding, second_deciding_book, done, second_ticket_remove, told_ticket, given_up, given_up_replies, given_up_sayings}
@@ -114,22 +114,25 @@ kept_as_planned = record { opening = record { job = 1; moment = now; ask = ask }
 landed : MayStep tried_book [] now (replied put landed_told) (Some recorded_owing) [] planned []
 landed =
     record {
-      owner = owner;
-      owns_book = refl;
-      records = none_sent (OfDss (RecordsAreDue owner owing_book));
+      acts =
+          record {
+            owner = owner;
+            owns_book = refl;
+            records = none_sent (OfDss (RecordsAreDue owner owing_book));
+            pair = tt;
+            notes = none_sent (OfPeer (NotesAreHeld owing_book));
+            held = holds_by_landing;
+            removals = tt;
+            tickets = tt;
+            ticket_calls = none_sent (OfDss (TicketsAreDue owner owing_book));
+            ticket_removals = none_sent (OfDss (RemovalsAreDue owner owing_book));
+            legal = owing_follows;
+            final = λ e. kept_as_planned;
+            cause = refl;
+            goes_on = λ e. inl refl;
+          };
       keys = tt;
-      pair = tt;
-      notes = none_sent (OfPeer (NotesAreHeld owing_book));
-      held = holds_by_landing;
-      removals = tt;
-      tickets = tt;
-      ticket_calls = none_sent (OfDss (TicketsAreDue owner owing_book));
-      ticket_removals = none_sent (OfDss (RemovalsAreDue owner owing_book));
-      legal = owing_follows;
-      final = λ e. kept_as_planned;
       hears = inl refl;
-      cause = refl;
-      goes_on = λ e. inl refl;
     }
 
 -- and serves it
@@ -141,22 +144,25 @@ is_held_now = refl
 serves : MayStep owing_book [] now (Comes.Details (codes "uss2") flight) None [] (Says.Pair (Some held_pair)) []
 serves =
     record {
-      owner = owner;
-      owns_book = refl;
-      records = none_sent (OfDss (RecordsAreDue owner owing_book));
+      acts =
+          record {
+            owner = owner;
+            owns_book = refl;
+            records = none_sent (OfDss (RecordsAreDue owner owing_book));
+            pair = record { flight = 1; is = is_held_now };
+            notes = none_sent (OfPeer (NotesAreHeld owing_book));
+            held = tt;
+            removals = tt;
+            tickets = tt;
+            ticket_calls = none_sent (OfDss (TicketsAreDue owner owing_book));
+            ticket_removals = none_sent (OfDss (RemovalsAreDue owner owing_book));
+            legal = tt;
+            final = tt;
+            cause = tt;
+            goes_on = λ e. inl refl;
+          };
       keys = tt;
-      pair = record { flight = 1; is = is_held_now };
-      notes = none_sent (OfPeer (NotesAreHeld owing_book));
-      held = tt;
-      removals = tt;
-      tickets = tt;
-      ticket_calls = none_sent (OfDss (TicketsAreDue owner owing_book));
-      ticket_removals = none_sent (OfDss (RemovalsAreDue owner owing_book));
-      legal = tt;
-      final = tt;
       hears = inl refl;
-      cause = tt;
-      goes_on = λ e. inl refl;
     }
 
 -- the second supplier asks for the details
@@ -164,22 +170,25 @@ serves =
 finds : MayStep second_tried_book [] now (replied query (Replies.Found (hidden ∷ []))) None asks_details Says.Nothing []
 finds =
     record {
-      owner = second;
-      owns_book = refl;
-      records = each_one (OfDss (RecordsAreDue second second_tried_book)) _ tt;
+      acts =
+          record {
+            owner = second;
+            owns_book = refl;
+            records = each_one (OfDss (RecordsAreDue second second_tried_book)) _ tt;
+            pair = tt;
+            notes = each_one (OfPeer (NotesAreHeld second_tried_book)) _ tt;
+            held = tt;
+            removals = tt;
+            tickets = tt;
+            ticket_calls = each_one (OfDss (TicketsAreDue second second_tried_book)) _ tt;
+            ticket_removals = each_one (OfDss (RemovalsAreDue second second_tried_book)) _ tt;
+            legal = tt;
+            final = tt;
+            cause = tt;
+            goes_on = λ e. inr refl;
+          };
       keys = tt;
-      pair = tt;
-      notes = each_one (OfPeer (NotesAreHeld second_tried_book)) _ tt;
-      held = tt;
-      removals = tt;
-      tickets = tt;
-      ticket_calls = each_one (OfDss (TicketsAreDue second second_tried_book)) _ tt;
-      ticket_removals = each_one (OfDss (RemovalsAreDue second second_tried_book)) _ tt;
-      legal = tt;
-      final = tt;
       hears = inl refl;
-      cause = tt;
-      goes_on = λ e. inr refl;
     }
 
 -- decides to give up
@@ -221,22 +230,25 @@ removes_ticket = record { is = refl; heard_open = refl; may = inl (refl, refl) }
 blocked : MayStep second_tried_book [] now (Comes.Peer details (Peers.Served held_pair)) (Some deciding) (sends second_ticket_remove) Says.Nothing heard_first
 blocked =
     record {
-      owner = second;
-      owns_book = refl;
-      records = each_one (OfDss (RecordsAreDue second second_deciding_book)) _ tt;
+      acts =
+          record {
+            owner = second;
+            owns_book = refl;
+            records = each_one (OfDss (RecordsAreDue second second_deciding_book)) _ tt;
+            pair = tt;
+            notes = each_one (OfPeer (NotesAreHeld second_deciding_book)) _ tt;
+            held = tt;
+            removals = tt;
+            tickets = tt;
+            ticket_calls = each_one (OfDss (TicketsAreDue second second_deciding_book)) _ tt;
+            ticket_removals = each_one (OfDss (RemovalsAreDue second second_deciding_book)) _ removes_ticket;
+            legal = deciding_follows;
+            final = tt;
+            cause = tt;
+            goes_on = λ e. inr refl;
+          };
       keys = tt;
-      pair = tt;
-      notes = each_one (OfPeer (NotesAreHeld second_deciding_book)) _ tt;
-      held = tt;
-      removals = tt;
-      tickets = tt;
-      ticket_calls = each_one (OfDss (TicketsAreDue second second_deciding_book)) _ tt;
-      ticket_removals = each_one (OfDss (RemovalsAreDue second second_deciding_book)) _ removes_ticket;
-      legal = deciding_follows;
-      final = tt;
       hears = inr refl;
-      cause = tt;
-      goes_on = λ e. inr refl;
     }
 
 -- and ends so once its ticket is gone
@@ -255,22 +267,25 @@ kept_as_conflict = record { opening = record { job = 1; moment = now; ask = ask 
 gives_up : MayStep second_deciding_book heard_first now (replied second_ticket_remove (Replies.TicketRemoved told_ticket)) (Some done) [] (Says.Answer conflict) heard_first
 gives_up =
     record {
-      owner = second;
-      owns_book = refl;
-      records = none_sent (OfDss (RecordsAreDue second (second_deciding_book ++ done ∷ [])));
+      acts =
+          record {
+            owner = second;
+            owns_book = refl;
+            records = none_sent (OfDss (RecordsAreDue second (second_deciding_book ++ done ∷ [])));
+            pair = tt;
+            notes = none_sent (OfPeer (NotesAreHeld (second_deciding_book ++ done ∷ [])));
+            held = tt;
+            removals = ((λ e. cc), (λ e. record { reply = Replies.TicketRemoved told_ticket; answers = (refl, refl, refl); removed = tt }));
+            tickets = tt;
+            ticket_calls = none_sent (OfDss (TicketsAreDue second (second_deciding_book ++ done ∷ [])));
+            ticket_removals = none_sent (OfDss (RemovalsAreDue second (second_deciding_book ++ done ∷ [])));
+            legal = done_follows;
+            final = λ e. kept_as_conflict;
+            cause = refl;
+            goes_on = λ e. inl refl;
+          };
       keys = tt;
-      pair = tt;
-      notes = none_sent (OfPeer (NotesAreHeld (second_deciding_book ++ done ∷ [])));
-      held = tt;
-      removals = ((λ e. cc), (λ e. record { reply = Replies.TicketRemoved told_ticket; answers = (refl, refl, refl); removed = tt }));
-      tickets = tt;
-      ticket_calls = none_sent (OfDss (TicketsAreDue second (second_deciding_book ++ done ∷ [])));
-      ticket_removals = none_sent (OfDss (RemovalsAreDue second (second_deciding_book ++ done ∷ [])));
-      legal = done_follows;
-      final = λ e. kept_as_conflict;
       hears = inl refl;
-      cause = refl;
-      goes_on = λ e. inl refl;
     }
 
 -- the run

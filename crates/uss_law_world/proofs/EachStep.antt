@@ -2,11 +2,12 @@
 use Rattle.std.proofs.Common.{◌≡◌, refl, ap, replicate}
 use Rattle.std.proofs.lemmas.List.{length-replicate}
 use Rattle.std.specs.Prelude.{[], None}
+use Rattle.uss_law_duty.specs.Duties.{Choice}
 use Rattle.uss_event.specs.declared.events.Said.TheVariants as Says
 use Rattle.uss_event.specs.declared.steps.Step.{Step}
 use Rattle.uss_event.specs.declared.steps.Step.TheVariants as Steps
 use Rattle.uss_event.specs.declared.steps.Stopped.TheVariants as Turns
-use Rattle.uss_law_world.specs.Moves.{Choice, Move, step_of}
+use Rattle.uss_law_world.specs.Moves.{Move, step_of}
 use Rattle.uss_law_world.specs.Moves.{Move as Moves}
 
 nothing : Choice

@@ -11,8 +11,10 @@ use Rattle.uss_intent.specs.declared.calls.DssReply.{DssReply}
 use Rattle.uss_intent.specs.declared.calls.DssReply.TheVariants as Replies
 use Rattle.uss_intent.specs.declared.calls.DssRefusal.{DssRefusal}
 use Rattle.uss_intent.specs.declared.calls.DssRefusal.TheVariants as Refuses
+use Rattle.uss_intent.specs.States.{is_strategic}
+use Rattle.uss_intent.specs.Numbers.{is_one_of}
 use Rattle.uss_event.specs.Pairs.{OperationalIntent}
-use Rattle.uss_event.specs.Verdicts.{verdict, is_strategic}
+use Rattle.uss_event.specs.Verdicts.{verdict}
 use Rattle.uss_event.specs.declared.rules.Verdict.TheVariants.{Clear}
 use Rattle.uss_event.specs.declared.asks.Wish.TheVariants.{End}
 use Rattle.uss_event.specs.declared.entries.Owner.{Owner}
@@ -26,7 +28,6 @@ use Rattle.uss_event.specs.declared.events.Answer.{Answer}
 use Rattle.uss_event.specs.declared.events.Said.{Said}
 use Rattle.uss_event.specs.declared.events.Said.TheVariants as Says
 use Rattle.uss_law_dss.specs.Lists.{Has}
-use Rattle.uss_law_dss.specs.Service.{has_number}
 use Rattle.uss_law_dss.specs.Orderly.{IsOrderly}
 use Rattle.uss_law_book.specs.Lists.{owner_of, Opening, Trial, Holding, Closing, openings, trials, holdings, endings}
 use Rattle.uss_law_book.specs.Readings.{trial_of, is_closed, is_ended}
@@ -133,8 +134,8 @@ ShowsLanding w s r = (o : List ℕ) → r.ovn ≡ Some o → HasLanding w s (tag
 
 -- what the call names was removed
 abbrev pub RetiredBy : World → DssAsk → Type 0
-RetiredBy w (Asks.Remove flight ovn) = has_number flight w.service.retired_flights ≡ true
-RetiredBy w (Asks.TicketRemove ticket version) = has_number ticket w.service.retired_tickets ≡ true
+RetiredBy w (Asks.Remove flight ovn) = is_one_of flight w.service.retired_flights ≡ true
+RetiredBy w (Asks.TicketRemove ticket version) = is_one_of ticket w.service.retired_tickets ≡ true
 RetiredBy w _ = Unit {0}
 
 pub record RefusedShows (w : World) (s job : ℕ) (ask : DssAsk) (refusal : DssRefusal) : Type 0 where
@@ -182,7 +183,7 @@ pub record IsFlightRetired (w : World) (s job : ℕ) : Type 0 where
   pub opening : Opening
   pub opened : Has (openings (book_of s w)) opening
   pub job_is : opening.job ≡ job
-  pub retired : has_number (flight_number s opening.ask.flight) w.service.retired_flights ≡ true
+  pub retired : is_one_of (flight_number s opening.ask.flight) w.service.retired_flights ≡ true
 
 abbrev pub IsUntried : List Entry → ℕ → Type 0
 IsUntried book job = (t : Trial) → Has (trials book) t → t.job ≡ job → ⊥
@@ -190,7 +191,7 @@ IsUntried book job = (t : Trial) → Has (trials book) t → t.job ≡ job → �
 -- a job that ended otherwise has no attempt, or its ticket is retired
 pub record EndingShows (w : World) (s : ℕ) (d : Closing) : Type 0 where
   pub ends : is_ended d.end ≡ true → IsFlightRetired w s d.job
-  pub lands_nothing : is_ended d.end ≡ false → IsUntried (book_of s w) d.job ⊎ (has_number (ticket_number s d.job) w.service.retired_tickets ≡ true)
+  pub lands_nothing : is_ended d.end ≡ false → IsUntried (book_of s w) d.job ⊎ (is_one_of (ticket_number s d.job) w.service.retired_tickets ≡ true)
 
 -- an answer by what was recorded, or by how the job ended
 pub record IsByHolding (book : List Entry) (s : ℕ) (o : Opening) (answer : Answer) : Type 0 where
@@ -233,6 +234,6 @@ pub record Facts (table : List ℕ) (owners : List Owner) (w : World) : Type 0 w
   pub recorded : (r : Recorded) → Has w.service.references r → RecordedFrom w r
   pub apart : (r q : Recorded) → Has w.service.references r → Has w.service.references q → AreApart table w r q
   pub standing : (l : Landing) → Has w.service.landings l → IsStanding w l
-  pub retired : (n : ℕ) → has_number n w.service.retired_flights ≡ true → IsToEnd w n
+  pub retired : (n : ℕ) → is_one_of n w.service.retired_flights ≡ true → IsToEnd w n
   pub closed : (s : ℕ) (d : Closing) → Has (endings (book_of s w)) d → EndingShows w s d
   pub sayings : (x : Saying) → Has w.sayings x → SaidIsKept (book_of x.supplier w) x.supplier x.flight x.number x.said

@@ -7,8 +7,9 @@ use Rattle.uss_intent.specs.declared.calls.DssAsk.{DssAsk}
 use Rattle.uss_intent.specs.declared.calls.DssAsk.TheVariants as Asks
 use Rattle.uss_intent.specs.declared.calls.DssReply.{DssReply}
 use Rattle.uss_intent.specs.declared.calls.DssReply.TheVariants as Replies
+use Rattle.uss_intent.specs.States.{is_strategic}
+use Rattle.uss_intent.specs.Numbers.{is_one_of}
 use Rattle.uss_event.specs.Pairs.{OperationalIntent}
-use Rattle.uss_event.specs.Verdicts.{is_strategic}
 use Rattle.uss_event.specs.declared.entries.Owner.{Owner}
 use Rattle.uss_event.specs.declared.entries.Entry.{Entry}
 use Rattle.uss_event.specs.declared.calls.DssCall.{DssCall}
@@ -19,7 +20,6 @@ use Rattle.uss_event.specs.declared.calls.Note.{Note}
 use Rattle.uss_event.specs.declared.events.Said.{Said}
 use Rattle.uss_event.specs.declared.events.Said.TheVariants as Says
 use Rattle.uss_law_dss.specs.Lists.{Has}
-use Rattle.uss_law_dss.specs.Service.{has_number}
 use Rattle.uss_law_dss.specs.Orderly.{IsOrderly}
 use Rattle.uss_law_book.specs.Lists.{Opening, Trial, Holding, Closing, openings, trials, holdings, endings}
 use Rattle.uss_law_book.specs.Readings.{trial_of, is_closed}
@@ -40,8 +40,8 @@ pub record Grows (w v : World) : Type 0 where
   pub untried : (s : ℕ) (d : Closing) → Has (endings (book_of s w)) d → (t : Trial) → Has (trials (book_of s v)) t → t.job ≡ d.job → Has (trials (book_of s w)) t
   pub landings : (l : Landing) → Has w.service.landings l → Has v.service.landings l
   pub ranks : (flight : ℕ) (l : Landing) → Has w.service.landings l → rank_of flight l.ovn v.service.landings ≡ rank_of flight l.ovn w.service.landings
-  pub flights : (n : ℕ) → has_number n w.service.retired_flights ≡ true → has_number n v.service.retired_flights ≡ true
-  pub tickets : (n : ℕ) → has_number n w.service.retired_tickets ≡ true → has_number n v.service.retired_tickets ≡ true
+  pub flights : (n : ℕ) → is_one_of n w.service.retired_flights ≡ true → is_one_of n v.service.retired_flights ≡ true
+  pub tickets : (n : ℕ) → is_one_of n w.service.retired_tickets ≡ true → is_one_of n v.service.retired_tickets ≡ true
 
 module _ {w v : World} (g : Grows w v) where
   -- what every longer book has
@@ -219,7 +219,7 @@ pub record News (table : List ℕ) (owners : List Owner) (w v : World) : Type 0 
   pub recorded : (r : Recorded) → Has v.service.references r → Has w.service.references r ⊎ RecordedFrom v r
   pub apart : (r q : Recorded) → Has v.service.references r → Has v.service.references q → (Has w.service.references r × Has w.service.references q) ⊎ AreApart table v r q
   pub standing : (l : Landing) → Has v.service.landings l → IsStanding v l
-  pub retired : (n : ℕ) → has_number n v.service.retired_flights ≡ true → (has_number n w.service.retired_flights ≡ true) ⊎ IsToEnd v n
+  pub retired : (n : ℕ) → is_one_of n v.service.retired_flights ≡ true → (is_one_of n w.service.retired_flights ≡ true) ⊎ IsToEnd v n
   pub closed : (s : ℕ) (d : Closing) → Has (endings (book_of s v)) d → Has (endings (book_of s w)) d ⊎ EndingShows v s d
   pub sayings : (x : Saying) → Has v.sayings x → Has w.sayings x ⊎ SaidIsKept (book_of x.supplier v) x.supplier x.flight x.number x.said
 

@@ -13,7 +13,7 @@ use Rattle.uss_event.specs.declared.entries.Owner.{Owner}
 use Rattle.uss_event.specs.declared.entries.Entry.{Entry}
 use Rattle.uss_event.specs.declared.calls.DssCall.{DssCall}
 use Rattle.uss_law_dss.specs.Lists.{Has}
-use Rattle.uss_law_dss.specs.Service.{Service, recorded_of, ovn_of, has_number}
+use Rattle.uss_law_dss.specs.Service.{Service, recorded_of, ovn_of}
 use Rattle.uss_law_dss.specs.Step.{after_put, service_step}
 use Rattle.uss_law_dss.specs.Effects.{Effect, Lands, TellsNoChange}
 use Rattle.uss_law_dss.specs.Effects.Effect.{lands, removes, makes_ticket, takes_ticket_out, stays}
@@ -32,6 +32,7 @@ use Rattle.uss_law_book.proofs.Kept.{open_parts, held_closes, opening_has}
 use Rattle.uss_law_book.proofs.EachOrderly.{owned, legal_is_orderly}
 use Rattle.uss_law_dss.proofs.Lists.{any_true}
 use Rattle.uss_intent.specs.Identifiers.{flight_number}
+use Rattle.uss_intent.specs.Numbers.{is_one_of}
 use Rattle.uss_law_world.proofs.Replies.{one_recorded}
 use Rattle.uss_law_world.specs.World.{Supplier, World, supplier_in, book_in, book_of, name_of, start}
 use Rattle.uss_law_world.specs.World.Post.{Called}
@@ -259,7 +260,7 @@ module _ (table : List ℕ) (owners : List Owner) (w : World) (names : AreSuppli
           let y = find_has (λ (z : Recorded). z.reference.flight == flight) w.service.references x.0 x.1 in
           let one : x.0 ≡ r = one_recorded w.service.references x.0 r j.service.references_ascend y.0 h (same_number x.0.reference.flight flight y.1 ∙ sym e) in
           let rec : recorded_of flight w.service ≡ Some r = x.1 ∙ ap Some one in
-          let kept : has_number flight w.service.retired_flights ≡ false = subst (λ n. has_number n w.service.retired_flights ≡ false) e (j.service.flights_stay_retired r h) in
+          let kept : is_one_of flight w.service.retired_flights ≡ false = subst (λ n. is_one_of n w.service.retired_flights ≡ false) e (j.service.flights_stay_retired r h) in
           let own : same_text r.reference.manager (name_of s w) ≡ true = equal_bytes r.reference.manager (name_of s w) c in
           rw (rec, kept, own) refl
 

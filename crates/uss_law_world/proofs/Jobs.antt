@@ -3,10 +3,11 @@ use Rattle.std.proofs.Common.{ℕ, ◌==◌, Bool, true, false, List, [], ◌≡
 use Rattle.uss_intent.specs.Identifiers.{flight_number, ticket_number}
 use Rattle.uss_intent.specs.declared.records.Recorded.{Recorded}
 use Rattle.uss_intent.specs.declared.records.Landing.{Landing}
+use Rattle.uss_intent.specs.Numbers.{is_one_of}
 use Rattle.uss_event.specs.declared.entries.Owner.{Owner}
 use Rattle.uss_event.specs.declared.entries.Entry.{Entry}
 use Rattle.uss_law_dss.specs.Lists.{Has}
-use Rattle.uss_law_dss.specs.Service.{has_number, recorded_of}
+use Rattle.uss_law_dss.specs.Service.{recorded_of}
 use Rattle.uss_law_dss.specs.Orderly.{IsAsLanded}
 use Rattle.uss_law_dss.proofs.Lists.{find_has, list_any_has}
 use Rattle.uss_law_dss.proofs.Tests.{same_number, other_number, not_both, some_same, either}
@@ -134,8 +135,8 @@ module _ (table : List ℕ) (owners : List Owner) (w : World) (names : AreSuppli
           record { holding = h; entered = entered; job_is = sym t.2 ∙ (ap (λ (z : Trial). z.job) trial ∙ a.job_is); ovn_is = e.names.ovn_is }
 
   -- the ticket of what is recorded isn't retired
-  pub ticket_there : (r : Recorded) → Has w.service.references r → has_number r.reference.ticket w.service.retired_tickets ≡ false
-  ticket_there r h = let c = j.service.covered r h in subst (λ n. has_number n w.service.retired_tickets ≡ false) c.cited (j.service.tickets_stay_retired c.ticket c.there)
+  pub ticket_there : (r : Recorded) → Has w.service.references r → is_one_of r.reference.ticket w.service.retired_tickets ≡ false
+  ticket_there r h = let c = j.service.covered r h in subst (λ n. is_one_of n w.service.retired_tickets ≡ false) c.cited (j.service.tickets_stay_retired c.ticket c.there)
 
   -- a recorded reference with a landing's OVN has its ticket
   ticket_of_landing : (l : Landing) → Has w.service.landings l → (r : Recorded) → Has w.service.references r → r.reference.ovn ≡ Some l.ovn → r.reference.ticket ≡ l.ticket
@@ -154,7 +155,7 @@ module _ (table : List ℕ) (owners : List Owner) (w : World) (names : AreSuppli
       | inr r ↦ (
           let x = landed_by s a.trial l a.tried a.there a.manager a.tag in
           let t : r.recorded.reference.ticket ≡ ticket_number s d.job = ticket_of_landing l a.there r.recorded r.there r.ovn_is ∙ (x.ticket ∙ ap (ticket_number s) a.job_is) in
-          not_both (has_number (ticket_number s d.job) w.service.retired_tickets) gone (subst (λ n. has_number n w.service.retired_tickets ≡ false) t (ticket_there r.recorded r.there)))
+          not_both (is_one_of (ticket_number s d.job) w.service.retired_tickets) gone (subst (λ n. is_one_of n w.service.retired_tickets ≡ false) t (ticket_there r.recorded r.there)))
     ]
   ]
 

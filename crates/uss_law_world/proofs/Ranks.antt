@@ -11,7 +11,7 @@ use Rattle.uss_law_dss.proofs.Lists.{has_last}
 use Rattle.uss_law_dss.proofs.Tests.{same_bytes, equal_bytes, equal_number, some_same, not_both}
 use Rattle.uss_law_dss.proofs.History.{has_numbered, last_has, count_none}
 use Rattle.uss_law_dss.proofs.Ovns.{ovns_differ}
-use Rattle.uss_law_world.specs.Claims.{one_of, rank_of}
+use Rattle.uss_law_world.specs.Claims.{counts_for, rank_of}
 
 -- a later landing has another OVN than the first
 first_differs : (n : ℕ) (l : Landing) (ls : List Landing) (m : Landing) → AreNumbered n (l ∷ ls) → n + length (l ∷ ls) < 10 ^ 16 → Has ls m → l.ovn ≡ m.ovn → ⊥
@@ -38,11 +38,11 @@ rank_kept flight ovn (x ∷ ls) more l (inl q) e =
     rw s refl
 rank_kept flight ovn (x ∷ ls) more l (inr h) e = go (same_text x.ovn ovn) (rank_kept flight ovn ls more l h e)
   where
-    go : (b : Bool) → rank_of flight ovn (ls ++ more) ≡ rank_of flight ovn ls → cond b (one_of flight x) (one_of flight x + rank_of flight ovn (ls ++ more)) ≡ cond b (one_of flight x) (one_of flight x + rank_of flight ovn ls)
+    go : (b : Bool) → rank_of flight ovn (ls ++ more) ≡ rank_of flight ovn ls → cond b (counts_for flight x) (counts_for flight x + rank_of flight ovn (ls ++ more)) ≡ cond b (counts_for flight x) (counts_for flight x + rank_of flight ovn ls)
     go true r = refl
-    go false r = ap (λ n. one_of flight x + n) r
+    go false r = ap (λ n. counts_for flight x + n) r
 
-count_first : (flight : ℕ) (x : Landing) (ls : List Landing) → count_by (λ (z : Landing). z.flight == flight) (x ∷ ls) ≡ one_of flight x + count_by (λ (z : Landing). z.flight == flight) ls
+count_first : (flight : ℕ) (x : Landing) (ls : List Landing) → count_by (λ (z : Landing). z.flight == flight) (x ∷ ls) ≡ counts_for flight x + count_by (λ (z : Landing). z.flight == flight) ls
 count_first flight x ls = sum_by-cons (λ (z : Landing). cond (z.flight == flight) 1 0) x ls
 
 -- a new landing's rank counts all of its flight
@@ -56,7 +56,7 @@ rank_of_new flight n (x ∷ ls) l a r =
     let s : same_text x.ovn l.ovn ≡ false = differs x.ovn l.ovn (first_differs n x (ls ++ l ∷ []) l a r (has_last ls l)) in
     let i = rank_of_new flight (n + 1) ls l a.1 (omega (arith, r)) in
     let c = count_first flight x (ls ++ l ∷ []) in
-    rw s (ap (λ k. one_of flight x + k) i ∙ sym c)
+    rw s (ap (λ k. counts_for flight x + k) i ∙ sym c)
 
 -- the last of a flight's landings has the rank of their number
 no_last : (flight : ℕ) (ls : List Landing) → last_of flight ls ≡ None → (l : Landing) → Has ls l → l.flight ≡ flight → ⊥
@@ -79,7 +79,7 @@ rank_of_last flight n (x ∷ ls) l a r e = go (last_of flight ls) refl (rank_of_
     go (Some m) p rec k =
         let q : last_of flight ls ≡ Some l = p ∙ k in
         let s : same_text x.ovn l.ovn ≡ false = differs x.ovn l.ovn (first_differs n x ls l a r (last_has flight ls l q)) in
-        rw s (ap (λ t. one_of flight x + t) (rec q) ∙ sym (count_first flight x ls))
+        rw s (ap (λ t. counts_for flight x + t) (rec q) ∙ sym (count_first flight x ls))
     go None p rec k = at (x.flight == flight) refl k
       where
         at : (b : Bool) → (x.flight == flight) ≡ b → cond b (Some x) None ≡ Some l → rank_of flight l.ovn (x ∷ ls) ≡ count_by (λ (z : Landing). z.flight == flight) (x ∷ ls)
@@ -89,4 +89,4 @@ rank_of_last flight n (x ∷ ls) l a r e = go (last_of flight ls) refl (rank_of_
             let s : same_text x.ovn l.ovn ≡ true = equal_bytes x.ovn l.ovn (ap (λ (z : Landing). z.ovn) same) in
             let c = count_none flight ls (λ m h f. no_last flight ls p m h f) in
             let t : count_by (λ (z : Landing). z.flight == flight) ls ≡ 0 = c in
-            rw s (sym (count_first flight x ls ∙ ap (λ u. one_of flight x + u) t ∙ omega arith))
+            rw s (sym (count_first flight x ls ∙ ap (λ u. counts_for flight x + u) t ∙ omega arith))

@@ -10,11 +10,12 @@ use Rattle.uss_intent.specs.declared.calls.DssReply.{DssReply}
 use Rattle.uss_intent.specs.declared.calls.DssReply.TheVariants.{Got, TicketGot, Refused}
 use Rattle.uss_intent.specs.declared.calls.DssRefusal.{DssRefusal}
 use Rattle.uss_intent.specs.declared.calls.DssRefusal.TheVariants.{Exists, Retired, Absent, StaleOvn, TicketInUse}
+use Rattle.uss_intent.specs.Numbers.{is_one_of}
 use Rattle.uss_law_dss.specs.Lists.{Has}
-use Rattle.uss_law_dss.specs.Service.{Service, has_number, recorded_of, ticket_of, has_ovn, shown_to}
+use Rattle.uss_law_dss.specs.Service.{Service, recorded_of, ticket_of, has_ovn, shown_to}
 use Rattle.uss_law_dss.specs.Refusals.{is_stale_change, is_cited, tests_of, put_tests, first_of, refusal_of}
 use Rattle.uss_law_dss.specs.Step.{after_remove, after_ticket_remove, with_recorded, with_ticket, accepted, unless_refused, service_step}
-use Rattle.uss_law_dss.specs.Orderly.{Ascend, flight_of}
+use Rattle.uss_law_dss.specs.Orderly.{Ascend, flight_recorded}
 use Rattle.uss_law_dss.proofs.Lists.{find_has}
 use Rattle.uss_law_dss.proofs.Tests.{not_true, not_both, equal_bytes}
 use Rattle.uss_law_dss.proofs.Placed.{above_has}
@@ -74,20 +75,20 @@ test_is b r t e h = cc
 refusal_is : (b : Bool) (r x : DssRefusal) (t : Bool × DssRefusal) → (b, r) ≡ t → t.1 ≡ x → r ≡ x
 refusal_is b r x t e h = cc
 
-pub remove_retired : (s : Service) (client : List ℕ) (flight : ℕ) (ovn : List ℕ) → refusal_of s client (Remove flight ovn) ≡ Some Retired → has_number flight s.retired_flights ≡ true
+pub remove_retired : (s : Service) (client : List ℕ) (flight : ℕ) (ovn : List ℕ) → refusal_of s client (Remove flight ovn) ≡ Some Retired → is_one_of flight s.retired_flights ≡ true
 remove_retired s client flight ovn h = let t = holds_of (tests_of s client (Remove flight ovn)) Retired h in at t.0 t.1 t.2 t.3
   where
-    at : (t : Bool × DssRefusal) → Has (tests_of s client (Remove flight ovn)) t → t.0 ≡ true → t.1 ≡ Retired → has_number flight s.retired_flights ≡ true
+    at : (t : Bool × DssRefusal) → Has (tests_of s client (Remove flight ovn)) t → t.0 ≡ true → t.1 ≡ Retired → is_one_of flight s.retired_flights ≡ true
     at t (inl e) x y = let z = refusal_is _ _ Retired t e y in cc
     at t (inr (inl e)) x y = test_is _ _ t e x
     at t (inr (inr (inl e))) x y = let z = refusal_is _ _ Retired t e y in cc
     at t (inr (inr (inr (inl e)))) x y = let z = refusal_is _ _ Retired t e y in cc
     at t (inr (inr (inr (inr n)))) x y = absurd n
 
-pub ticket_remove_retired : (s : Service) (client : List ℕ) (ticket version : ℕ) → refusal_of s client (TicketRemove ticket version) ≡ Some Retired → has_number ticket s.retired_tickets ≡ true
+pub ticket_remove_retired : (s : Service) (client : List ℕ) (ticket version : ℕ) → refusal_of s client (TicketRemove ticket version) ≡ Some Retired → is_one_of ticket s.retired_tickets ≡ true
 ticket_remove_retired s client ticket version h = let t = holds_of (tests_of s client (TicketRemove ticket version)) Retired h in at t.0 t.1 t.2 t.3
   where
-    at : (t : Bool × DssRefusal) → Has (tests_of s client (TicketRemove ticket version)) t → t.0 ≡ true → t.1 ≡ Retired → has_number ticket s.retired_tickets ≡ true
+    at : (t : Bool × DssRefusal) → Has (tests_of s client (TicketRemove ticket version)) t → t.0 ≡ true → t.1 ≡ Retired → is_one_of ticket s.retired_tickets ≡ true
     at t (inl e) x y = let z = refusal_is _ _ Retired t e y in cc
     at t (inr (inl e)) x y = test_is _ _ t e x
     at t (inr (inr (inl e))) x y = let z = refusal_is _ _ Retired t e y in cc
@@ -173,9 +174,9 @@ less_or_same : (m n : ℕ) → m < n → m ≡ n → ⊥
 less_or_same m n l f = omega (arith, l, f)
 
 -- a flight has one recorded reference
-pub one_recorded : (rs : List Recorded) (r q : Recorded) → Ascend flight_of rs → Has rs r → Has rs q → r.reference.flight ≡ q.reference.flight → r ≡ q
+pub one_recorded : (rs : List Recorded) (r q : Recorded) → Ascend flight_recorded rs → Has rs r → Has rs q → r.reference.flight ≡ q.reference.flight → r ≡ q
 one_recorded [] r q a h k e = absurd h
 one_recorded (x ∷ xs) r q a (inl h) (inl k) e = sym h ∙ k
-one_recorded (x ∷ xs) r q a (inl h) (inr k) e = absurd (less_or_same x.reference.flight q.reference.flight (above_has flight_of x.reference.flight xs q a.0 k) (ap (λ (z : Recorded). z.reference.flight) h ∙ e))
-one_recorded (x ∷ xs) r q a (inr h) (inl k) e = absurd (less_or_same x.reference.flight r.reference.flight (above_has flight_of x.reference.flight xs r a.0 h) (ap (λ (z : Recorded). z.reference.flight) k ∙ sym e))
+one_recorded (x ∷ xs) r q a (inl h) (inr k) e = absurd (less_or_same x.reference.flight q.reference.flight (above_has flight_recorded x.reference.flight xs q a.0 k) (ap (λ (z : Recorded). z.reference.flight) h ∙ e))
+one_recorded (x ∷ xs) r q a (inr h) (inl k) e = absurd (less_or_same x.reference.flight r.reference.flight (above_has flight_recorded x.reference.flight xs r a.0 h) (ap (λ (z : Recorded). z.reference.flight) k ∙ sym e))
 one_recorded (x ∷ xs) r q a (inr h) (inr k) e = one_recorded xs r q a.1 h k e

@@ -9,8 +9,10 @@ use Rattle.uss_event.specs.declared.calls.PeerReply.TheVariants as Peers
 use Rattle.uss_event.specs.declared.steps.Stopped.{Stopped}
 use Rattle.uss_event.specs.declared.steps.Stopped.TheVariants as Turns
 use Rattle.uss_intent.specs.declared.records.Landing.{Landing}
+use Rattle.uss_intent.specs.Numbers.{is_one_of}
+use Rattle.uss_law_duty.specs.Duties.{Choice}
 use Rattle.uss_law_dss.specs.Lists.{Has}
-use Rattle.uss_law_dss.specs.Service.{Service, has_number}
+use Rattle.uss_law_dss.specs.Service.{Service}
 use Rattle.uss_law_dss.specs.Orderly.{IsOrderly}
 use Rattle.uss_law_dss.proofs.Tests.{some_same}
 use Rattle.uss_law_book.specs.Lists.{trials, holdings, endings}
@@ -18,7 +20,7 @@ use Rattle.uss_law_book.specs.Attempts.{attempt_of}
 use Rattle.uss_law_duty.specs.Heard.News.{Heard}
 use Rattle.uss_law_world.specs.World.{Supplier, Post, World, supplier_in, book_in, heard_in, name_in, book_of, heard_of, name_of, post_at, start}
 use Rattle.uss_law_world.specs.World.Post.{Called, Replied, Asked, Answered}
-use Rattle.uss_law_world.specs.Moves.{Choice, Move, Arrival, event_by, arrival_by, arrival_of, fault_by, fault_of, posts_of, restarted, after_step, after_restart, arrives, brings, marked, comes, delivers, takes, next_message, delivers_next, drains, marked_by, stops, happens, run}
+use Rattle.uss_law_world.specs.Moves.{Move, Arrival, event_by, arrival_by, arrival_of, fault_by, fault_of, posts_of, restarted, after_step, after_restart, arrives, brings, marked, comes, delivers, takes, next_message, delivers_next, drains, marked_by, stops, happens, run}
 use Rattle.uss_law_world.specs.Moves.{Move as Moves}
 use Rattle.uss_law_world.specs.Free.{AreSuppliers, MayTake, MayDrain, arrival_of_next, MayStop, IsAllowed, IsFree}
 use Rattle.uss_law_world.specs.Claims.{rank_of}
@@ -50,8 +52,8 @@ same_facts table owners w v q j = kept table owners w v news j
           untried = λ k d h t n e. subst (λ b. Has (trials b) t) (q.books k) n;
           landings = λ l h. subst (λ (z : Service). Has z.landings l) (sym q.service) h;
           ranks = λ flight l h. ap (λ (z : Service). rank_of flight l.ovn z.landings) q.service;
-          flights = λ n h. subst (λ (z : Service). has_number n z.retired_flights ≡ true) (sym q.service) h;
-          tickets = λ n h. subst (λ (z : Service). has_number n z.retired_tickets ≡ true) (sym q.service) h;
+          flights = λ n h. subst (λ (z : Service). is_one_of n z.retired_flights ≡ true) (sym q.service) h;
+          tickets = λ n h. subst (λ (z : Service). is_one_of n z.retired_tickets ≡ true) (sym q.service) h;
         }
 
     standing : (l : Landing) → Has v.service.landings l → IsStanding v l
@@ -77,7 +79,7 @@ same_facts table owners w v q j = kept table owners w v news j
           recorded = λ r h. inl (subst (λ (z : Service). Has z.references r) q.service h);
           apart = λ r z h i. inl (subst (λ (y : Service). Has y.references r) q.service h, subst (λ (y : Service). Has y.references z) q.service i);
           standing = standing;
-          retired = λ n h. inl (subst (λ (z : Service). has_number n z.retired_flights ≡ true) q.service h);
+          retired = λ n h. inl (subst (λ (z : Service). is_one_of n z.retired_flights ≡ true) q.service h);
           closed = λ k d h. inl (subst (λ b. Has (endings b) d) (q.books k) h);
           sayings = λ x h. inl (subst (λ z. Has z x) q.sayings h);
         }

@@ -53,22 +53,25 @@ is_open_then = refl
 pub asking : MayStep second_book [] now (Comes.Ask ask) (Some opened) (sends second_ticket_put) Says.Nothing []
 asking =
     record {
-      owner = second;
-      owns_book = refl;
-      records = each_one (OfDss (RecordsAreDue second second_asked_book)) _ tt;
+      acts =
+          record {
+            owner = second;
+            owns_book = refl;
+            records = each_one (OfDss (RecordsAreDue second second_asked_book)) _ tt;
+            pair = tt;
+            notes = each_one (OfPeer (NotesAreHeld second_asked_book)) _ tt;
+            held = tt;
+            removals = tt;
+            tickets = tt;
+            ticket_calls = each_one (OfDss (TicketsAreDue second second_asked_book)) _ (puts_its_ticket, is_open_then);
+            ticket_removals = each_one (OfDss (RemovalsAreDue second second_asked_book)) _ tt;
+            legal = follows_opened;
+            final = tt;
+            cause = tt;
+            goes_on = λ e. inr refl;
+          };
       keys = tt;
-      pair = tt;
-      notes = each_one (OfPeer (NotesAreHeld second_asked_book)) _ tt;
-      held = tt;
-      removals = tt;
-      tickets = tt;
-      ticket_calls = each_one (OfDss (TicketsAreDue second second_asked_book)) _ (puts_its_ticket, is_open_then);
-      ticket_removals = each_one (OfDss (RemovalsAreDue second second_asked_book)) _ tt;
-      legal = follows_opened;
-      final = tt;
       hears = inl refl;
-      cause = tt;
-      goes_on = λ e. inr refl;
     }
 
 may_open_ticket : MayOpenTicket second_asked_book 1
@@ -90,22 +93,25 @@ follows_heard_open = record { first = refl; coding = heard_open_follows.coding; 
 pub ticket_made : MayStep second_asked_book [] now (replied second_ticket_put (Replies.TicketMade the_second_ticket)) (Some heard_open) (sends query) Says.Nothing []
 ticket_made =
     record {
-      owner = second;
-      owns_book = refl;
-      records = each_one (OfDss (RecordsAreDue second second_ticket_book)) _ tt;
+      acts =
+          record {
+            owner = second;
+            owns_book = refl;
+            records = each_one (OfDss (RecordsAreDue second second_ticket_book)) _ tt;
+            pair = tt;
+            notes = each_one (OfPeer (NotesAreHeld second_ticket_book)) _ tt;
+            held = tt;
+            removals = tt;
+            tickets = record { ask = second_ticket_put; reply = Replies.TicketMade the_second_ticket; answers = (refl, refl, refl); its_call = puts_its_ticket; made = tt };
+            ticket_calls = each_one (OfDss (TicketsAreDue second second_ticket_book)) _ tt;
+            ticket_removals = each_one (OfDss (RemovalsAreDue second second_ticket_book)) _ tt;
+            legal = follows_heard_open;
+            final = tt;
+            cause = tt;
+            goes_on = λ e. inr refl;
+          };
       keys = tt;
-      pair = tt;
-      notes = each_one (OfPeer (NotesAreHeld second_ticket_book)) _ tt;
-      held = tt;
-      removals = tt;
-      tickets = record { ask = second_ticket_put; reply = Replies.TicketMade the_second_ticket; answers = (refl, refl, refl); its_call = puts_its_ticket; made = tt };
-      ticket_calls = each_one (OfDss (TicketsAreDue second second_ticket_book)) _ tt;
-      ticket_removals = each_one (OfDss (RemovalsAreDue second second_ticket_book)) _ tt;
-      legal = follows_heard_open;
-      final = tt;
       hears = inl refl;
-      cause = tt;
-      goes_on = λ e. inr refl;
     }
 
 may_try : MayTry second_ticket_book 1 1 0 None []
@@ -160,41 +166,47 @@ records_it = record { attempt = the_attempt; found = found_by_its_tag; its_job =
 pub nothing_found : MayStep second_ticket_book [] now (replied query (Replies.Found [])) (Some pending) (sends second_put) Says.Nothing []
 nothing_found =
     record {
-      owner = second;
-      owns_book = refl;
-      records = each_one (OfDss (RecordsAreDue second second_tried_book)) _ records_it;
+      acts =
+          record {
+            owner = second;
+            owns_book = refl;
+            records = each_one (OfDss (RecordsAreDue second second_tried_book)) _ records_it;
+            pair = tt;
+            notes = each_one (OfPeer (NotesAreHeld second_tried_book)) _ tt;
+            held = tt;
+            removals = tt;
+            tickets = tt;
+            ticket_calls = each_one (OfDss (TicketsAreDue second second_tried_book)) _ tt;
+            ticket_removals = each_one (OfDss (RemovalsAreDue second second_tried_book)) _ tt;
+            legal = follows_pending;
+            final = tt;
+            cause = tt;
+            goes_on = λ e. inr refl;
+          };
       keys = λ a f k o g ovn h. absurd h;
-      pair = tt;
-      notes = each_one (OfPeer (NotesAreHeld second_tried_book)) _ tt;
-      held = tt;
-      removals = tt;
-      tickets = tt;
-      ticket_calls = each_one (OfDss (TicketsAreDue second second_tried_book)) _ tt;
-      ticket_removals = each_one (OfDss (RemovalsAreDue second second_tried_book)) _ tt;
-      legal = follows_pending;
-      final = tt;
       hears = inl refl;
-      cause = tt;
-      goes_on = λ e. inr refl;
     }
 
 pub lacked : MayStep second_tried_book [] now (replied second_put lacks_key) None (sends query) Says.Nothing []
 lacked =
     record {
-      owner = second;
-      owns_book = refl;
-      records = each_one (OfDss (RecordsAreDue second second_tried_book)) _ tt;
+      acts =
+          record {
+            owner = second;
+            owns_book = refl;
+            records = each_one (OfDss (RecordsAreDue second second_tried_book)) _ tt;
+            pair = tt;
+            notes = each_one (OfPeer (NotesAreHeld second_tried_book)) _ tt;
+            held = tt;
+            removals = tt;
+            tickets = tt;
+            ticket_calls = each_one (OfDss (TicketsAreDue second second_tried_book)) _ tt;
+            ticket_removals = each_one (OfDss (RemovalsAreDue second second_tried_book)) _ tt;
+            legal = tt;
+            final = tt;
+            cause = tt;
+            goes_on = λ e. inr refl;
+          };
       keys = tt;
-      pair = tt;
-      notes = each_one (OfPeer (NotesAreHeld second_tried_book)) _ tt;
-      held = tt;
-      removals = tt;
-      tickets = tt;
-      ticket_calls = each_one (OfDss (TicketsAreDue second second_tried_book)) _ tt;
-      ticket_removals = each_one (OfDss (RemovalsAreDue second second_tried_book)) _ tt;
-      legal = tt;
-      final = tt;
       hears = inl refl;
-      cause = tt;
-      goes_on = λ e. inr refl;
     }

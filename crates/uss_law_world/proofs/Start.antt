@@ -4,7 +4,7 @@ use Rattle.std.specs.List.{list_all}
 use Rattle.std.proofs.lemmas.Bool.Decides.{nat_tests}
 use Rattle.uss_event.specs.Rules.{is_below, ascend, is_table}
 use Rattle.uss_intent.specs.Texts.{is_name, is_name_byte}
-use Rattle.uss_event.specs.Verdicts.{is_strategic}
+use Rattle.uss_intent.specs.States.{is_strategic}
 use Rattle.uss_event.specs.declared.entries.Owner.{Owner}
 use Rattle.uss_event.specs.declared.entries.Entry.TheVariants as Enters
 use Rattle.uss_law_dss.specs.Lists.{Has}

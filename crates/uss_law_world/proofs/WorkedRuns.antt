@@ -5,6 +5,7 @@ use Rattle.uss_shape.specs.Overlap.{outlines_meet, region_holds_first, region_ho
 use Rattle.uss_vol4.specs.Bounding.{bounding_box}
 use Rattle.uss_vol4.specs.Sharing.{shares, any_shares}
 use Rattle.uss_intent.specs.Tags.{tag_of, number_of_digits, digits_at_end}
+use Rattle.uss_law_duty.specs.Duties.{clamped}
 use Rattle.uss_event.specs.declared.events.Answer.TheVariants as Answers
 use Rattle.uss_event.specs.declared.events.Said.TheVariants as Says
 use Rattle.uss_law_dss.specs.Service.{ovn_of, lies_in}
@@ -12,7 +13,7 @@ use Rattle.uss_law_book.specs.Readings.{opening_of}
 use Rattle.uss_law_duty.specs.Worked as One
 use Rattle.uss_law_duty.proofs.Worked as May
 use Rattle.uss_law_world.specs.World.{supplier_in, start}
-use Rattle.uss_law_world.specs.Moves.{clamped, run}
+use Rattle.uss_law_world.specs.Moves.{run}
 use Rattle.uss_law_world.specs.Free.{IsFree}
 use Rattle.uss_law_world.specs.Worked.{said_in, replies_in, saying, found_again, found_again_replies, cancelled_early, cancelled_early_replies, second, both_put, both_put_replies}
 use Rattle.uss_law_world.proofs.Second as Second

@@ -16,10 +16,10 @@ use Rattle.uss_intent.specs.declared.calls.DssAsk.TheVariants as Asks
 use Rattle.uss_intent.specs.declared.calls.DssReply.TheVariants as Replies
 use Rattle.uss_intent.specs.declared.calls.DssRefusal.{DssRefusal}
 use Rattle.uss_intent.specs.declared.calls.DssRefusal.TheVariants as Refuses
+use Rattle.uss_intent.specs.States.{is_strategic}
+use Rattle.uss_intent.specs.Numbers.{is_one_of}
 use Rattle.uss_event.specs.Pairs.{OperationalIntent}
 use Rattle.uss_event.specs.Plans as Plans
-use Rattle.uss_event.specs.Rules.{is_listed}
-use Rattle.uss_event.specs.Verdicts.{is_strategic}
 use Rattle.uss_event.specs.declared.calls.DssCall.{DssCall}
 use Rattle.uss_event.specs.declared.calls.Note.{Note}
 use Rattle.uss_event.specs.declared.calls.PeerCall.{PeerCall}
@@ -30,7 +30,7 @@ use Rattle.uss_event.specs.declared.events.Answer.TheVariants as Answers
 use Rattle.uss_event.specs.declared.events.Said.{Said}
 use Rattle.uss_event.specs.declared.events.Said.TheVariants as Says
 use Rattle.uss_law_dss.specs.Lists.{Has}
-use Rattle.uss_law_dss.specs.Service.{has_number, recorded_of}
+use Rattle.uss_law_dss.specs.Service.{recorded_of}
 use Rattle.uss_law_dss.specs.Step.{service_step}
 use Rattle.uss_law_book.specs.Lists.{Opening, Trial, openings, trials}
 use Rattle.uss_law_book.specs.Readings.{is_open, owns, opening_of, open_job_of, has_ended}
@@ -75,12 +75,12 @@ pub record EachIsIntended (w : World) : Type 0 where
   pub one : (r : Recorded) (a b : Attempted) → Has w.service.references r → IsIntentOf w r a → IsIntentOf w r b → a ≡ b
 
 -- the number of a flight's landings up to the one with an OVN
-abbrev pub one_of : ℕ → Landing → ℕ
-one_of flight l = if l.flight == flight then 1 else 0
+abbrev pub counts_for : ℕ → Landing → ℕ
+counts_for flight l = if l.flight == flight then 1 else 0
 
 abbrev pub rank_of : ℕ → List ℕ → List Landing → ℕ
 rank_of flight ovn [] = 0
-rank_of flight ovn (l ∷ ls) = if same_text l.ovn ovn then one_of flight l else one_of flight l + rank_of flight ovn ls
+rank_of flight ovn (l ∷ ls) = if same_text l.ovn ovn then counts_for flight l else counts_for flight l + rank_of flight ovn ls
 
 -- a pair is made: it is an attempt of some supplier as it landed, and its version counts the flight's landings up to this one
 pub record IsMade (w : World) (p : OperationalIntent) : Type 0 where
@@ -111,7 +111,7 @@ pub record Forbidden (table : List ℕ) (a b : Attempted) : Type 0 where
   pub second : is_strategic b.state ≡ true
   pub flights : a.flight ≢ b.flight
   pub priority : a.details.priority ≡ b.details.priority
-  pub listed : is_listed a.details.priority table ≡ true
+  pub listed : is_one_of a.details.priority table ≡ true
   pub share : ListsShare (extents_of a) (extents_of b)
 
 abbrev pub NoneForbidden : List ℕ → World → Type 0
@@ -198,7 +198,7 @@ NothingLanded w s job = (l : Landing) → IsLandingOf w s job l → ⊥
 abbrev pub IsTrueAnswer : World → ℕ → ℕ → Answer → Type 0
 IsTrueAnswer w s job (Answers.Planned flight tag alternative ovn version) = IsRecordedSo w s job flight tag alternative ovn version
 IsTrueAnswer w s job (Answers.Changed flight tag alternative ovn version) = IsRecordedSo w s job flight tag alternative ovn version
-IsTrueAnswer w s job (Answers.Ended flight) = has_number flight w.service.retired_flights ≡ true
+IsTrueAnswer w s job (Answers.Ended flight) = is_one_of flight w.service.retired_flights ≡ true
 IsTrueAnswer w s job (Answers.Conflict flight manager rule) = NothingLanded w s job
 IsTrueAnswer w s job (Answers.Stale missing) = NothingLanded w s job
 IsTrueAnswer w s job Answers.Cancelled = NothingLanded w s job
@@ -267,4 +267,4 @@ pub record HoldsWhatIsRecorded (w : World) (s flight : ℕ) : Type 0 where
 -- so it is while the flight has no open job and hasn't ended; and where it has ended, it is retired
 pub record BooksAgree (w : World) : Type 0 where
   pub between_jobs : (s flight : ℕ) → flight < 2 ^ 64 → open_job_of flight (book_of s w) ≡ None → has_ended flight (book_of s w) ≡ false → HoldsWhatIsRecorded w s flight
-  pub ended : (s flight : ℕ) → has_ended flight (book_of s w) ≡ true → has_number (flight_number s flight) w.service.retired_flights ≡ true
+  pub ended : (s flight : ℕ) → has_ended flight (book_of s w) ≡ true → is_one_of (flight_number s flight) w.service.retired_flights ≡ true

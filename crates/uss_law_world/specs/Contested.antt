@@ -7,6 +7,7 @@ use Rattle.uss_intent.specs.declared.calls.DssAsk.{DssAsk}
 use Rattle.uss_intent.specs.declared.calls.DssAsk.TheVariants as Asks
 use Rattle.uss_intent.specs.declared.calls.DssReply.{DssReply}
 use Rattle.uss_intent.specs.declared.calls.DssReply.TheVariants as Replies
+use Rattle.uss_law_duty.specs.Duties.{Choice}
 use Rattle.uss_event.specs.declared.rules.Verdict.TheVariants.{EqualForbidden}
 use Rattle.uss_event.specs.declared.entries.Ending.{Ending}
 use Rattle.uss_event.specs.declared.entries.Ending.TheVariants as Ends
@@ -24,7 +25,7 @@ use Rattle.uss_law_duty.specs.Heard.{News}
 use Rattle.uss_law_duty.specs.Heard.News.{Heard}
 use Rattle.uss_law_duty.specs.Worked as One
 use Rattle.uss_law_world.specs.World.{Saying}
-use Rattle.uss_law_world.specs.Moves.{Choice, Move}
+use Rattle.uss_law_world.specs.Moves.{Move}
 use Rattle.uss_law_world.specs.Worked.{does, idle, deliver, saying, second_ticket, the_second_ticket, second_tried_book, hidden, both_put, both_put_replies}
 
 -- the first supplier is to tell the second of what it recorded

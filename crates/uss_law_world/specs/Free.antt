@@ -6,9 +6,9 @@ use Rattle.uss_event.specs.declared.steps.Stopped.{Stopped}
 use Rattle.uss_event.specs.declared.steps.Stopped.TheVariants as Turns
 use Rattle.uss_law_dss.specs.Lists.{Has}
 use Rattle.uss_law_book.specs.Coding.{IsOwner}
-use Rattle.uss_law_duty.specs.Duties.{MayStep}
+use Rattle.uss_law_duty.specs.Duties.{MayStep, Choice, clamped}
 use Rattle.uss_law_world.specs.World.{World, book_of, heard_of}
-use Rattle.uss_law_world.specs.Moves.{Choice, Move, Arrival, clamped, arrival_of, fault_of, delivers_next, next_message, happens}
+use Rattle.uss_law_world.specs.Moves.{Move, Arrival, arrival_of, fault_of, delivers_next, next_message, happens}
 use Rattle.uss_law_world.specs.Moves.{Move as Moves}
 
 -- suppliers with one table of rules, each with a name of its own. A number is one supplier's: the first's that has it.

@@ -3,6 +3,7 @@ use Rattle.std.specs.Prelude.{ℕ, ℤ, pos, Bool, true, false, not, ◌&&◌, �
 use Rattle.std.specs.List.{range_with_len}
 use Rattle.std.specs.Int.{int_min, int_max}
 use Rattle.uss_intent.specs.declared.calls.DssReply.{DssReply}
+use Rattle.uss_intent.specs.Numbers.{is_one_of}
 use Rattle.uss_event.specs.Pairs.{OperationalIntent}
 use Rattle.uss_event.specs.declared.entries.Entry.{Entry}
 use Rattle.uss_event.specs.declared.calls.DssCall.{DssCall}
@@ -22,19 +23,11 @@ use Rattle.uss_event.specs.declared.steps.Stopped.TheVariants as Turns
 use Rattle.uss_law_dss.specs.Service.{Service}
 use Rattle.uss_law_dss.specs.Step.{service_step}
 use Rattle.uss_law_book.specs.Lists.{Opening}
-use Rattle.uss_law_book.specs.Readings.{is_one_of}
 use Rattle.uss_law_duty.specs.Heard.{News}
 use Rattle.uss_law_duty.specs.Answers.{job_of_call, job_named}
-use Rattle.uss_law_duty.specs.Duties.{book_after}
+use Rattle.uss_law_duty.specs.Duties.{book_after, Choice}
 use Rattle.uss_law_world.specs.World.{Supplier, Post, Saying, World, book_of, name_of, post_at, post_of}
 use Rattle.uss_law_world.specs.World.Post.{Called, Replied, Asked, Answered}
-
--- what a supplier chooses to do in a step: an entry or none, the calls that it hands out, what it says, and what it has heard after
-pub record Choice : Type 0 where
-  pub entry : Option Entry
-  pub sends : List Outgoing
-  pub said : Said
-  pub heard : List News
 
 -- what may happen, each step of a supplier with what the supplier chose
 pub data Move : Type 0 where
@@ -69,10 +62,6 @@ step_of (Drain cs) = Steps.Drain (length cs)
 step_of (Fault k c) = Steps.Fault k
 step_of (Restart s) = Steps.Restart s
 step_of (Stop kept sent step c) = Steps.Stop kept sent step
-
--- a moment within the range of instants: 2000-01-01 to 2200-01-01
-unfoldable pub clamped : ℤ → ℤ
-clamped moment = int_max (pos 946684800000000000) (int_min moment (pos 7258118400000000000))
 
 -- a call of another supplier that waits for its answer: the message's number, who sent it, and the call
 pub record Asker : Type 0 where

@@ -18,11 +18,11 @@ use Rattle.uss_event.specs.declared.events.Said.{Said}
 use Rattle.uss_event.specs.declared.events.Said.TheVariants as Says
 use Rattle.uss_event.specs.declared.events.Answer.TheVariants as Answers
 use Rattle.uss_event.specs.declared.steps.Stopped.TheVariants as Turns
-use Rattle.uss_law_duty.specs.Duties.{says_something}
+use Rattle.uss_law_duty.specs.Duties.{says_something, Choice}
 use Rattle.uss_law_duty.specs.Worked as One
 use Rattle.uss_law_world.specs.World.{Post, Saying, World}
 use Rattle.uss_law_world.specs.World.Post.{Called, Replied, Asked, Answered}
-use Rattle.uss_law_world.specs.Moves.{Choice, Move}
+use Rattle.uss_law_world.specs.Moves.{Move}
 use Rattle.uss_law_world.specs.Moves.{Move as Moves}
 
 -- what was said, but for nothing

@@ -2,10 +2,11 @@
 use Rattle.std.proofs.Common.{ℕ, suc, ◌==◌, Bool, true, false, cond, ◌||◌, ◌&&◌, List, [], ◌∷◌, ◌≡◌, ◌∙◌, filter, length, refl, ap, sym, Option, Some, None, is_some, Bor}
 use Rattle.std.specs.List.{list_any, find}
 use Rattle.std.specs.Option.{option_and_then, option_copied}
+use Rattle.uss_intent.specs.Numbers.{is_one_of}
 use Rattle.uss_event.specs.declared.entries.Entry.{Entry}
 use Rattle.uss_event.specs.declared.entries.Entry.TheVariants.{Opened, TicketOpen, Pending, Held, Deciding, Done, TicketGone, Sent}
 use Rattle.uss_law_book.specs.Lists.{Opening, Trial, Holding, Closing, openings, trials, tickets_gone}
-use Rattle.uss_law_book.specs.Readings.{opening_of, is_held, is_done, trials_of, trial_of, owns, decision_of, holding_of, ending_of, is_ticket_open, is_told, is_one_of}
+use Rattle.uss_law_book.specs.Readings.{opening_of, is_held, is_done, trials_of, trial_of, owns, decision_of, holding_of, ending_of, is_ticket_open, is_told}
 use Rattle.uss_legal.specs.Speaks.{is_of, speaks_of, tries, tries_with, tells, opening_in, trial_in, holding_in, decision_in, ending_in}
 
 pub held_by_any : (job : ℕ) (es : List Entry) → list_any (speaks_of 5 job) es ≡ is_held job es

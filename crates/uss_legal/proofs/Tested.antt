@@ -9,6 +9,7 @@ use Rattle.std.proofs.lemmas.List.Sums.{AllPass-from_list_all, list_all-from_All
 use Rattle.uss_intent.specs.Same.{same_text}
 use Rattle.uss_intent.specs.SameLaws.{option_is_same, text_is_same}
 use Rattle.uss_intent.specs.declared.records.State.{State}
+use Rattle.uss_intent.specs.States.{is_strategic}
 use Rattle.uss_event.specs.Plans.{is_plan}
 use Rattle.uss_event.specs.Transitions.{may_go}
 use Rattle.uss_event.specs.declared.details.Proposal.{Proposal}
@@ -18,7 +19,6 @@ use Rattle.uss_event.specs.declared.asks.FlightAsk.{FlightAsk}
 use Rattle.uss_event.specs.declared.entries.Ending.{Ending}
 use Rattle.uss_event.specs.declared.entries.Ending.TheVariants.{Conflict, Stale, Cancelled, Ended}
 use Rattle.uss_event.specs.declared.entries.Entry.{Entry}
-use Rattle.uss_law_dss.specs.Service.{is_keyed}
 use Rattle.uss_law_book.specs.Lists.{Opening, openings, trials}
 use Rattle.uss_law_book.specs.Readings.{opening_of, is_closed, is_open, open_job_of, last_of, has_ended, trials_of, owns, decision_of, base_of, is_put, puts, is_put_job, is_ticket_open, is_ticket_gone, is_ticket_needed, owed_of, is_told}
 use Rattle.uss_law_book.specs.Attempts.{held_state}
@@ -166,18 +166,18 @@ record FitsWish (es : List Entry) (job alternative : ℕ) (key : List (List ℕ)
   pub put : IsPut w
   pub round : length (trials_of job es) < put.rounds
   pub one_of : alternative < length put.proposals
-  pub blind : IsBlind (is_keyed put.to) alternative key
+  pub blind : IsBlind (is_strategic put.to) alternative key
 
 fits_wish_from : (es : List Entry) (job alternative : ℕ) (key : List (List ℕ)) (w : Wish) → fits_wish es job alternative key w ≡ true → FitsWish es job alternative key w
 fits_wish_from es job alternative key End h = absurd cc
 fits_wish_from es job alternative key (Put to priority rounds proposals) h =
     let a = and_parts (nat_lt (length (trials_of job es)) rounds) _ h in
-    let b = and_parts (nat_lt alternative (length proposals)) (is_blind (is_keyed to) alternative key) a.1 in
+    let b = and_parts (nat_lt alternative (length proposals)) (is_blind (is_strategic to) alternative key) a.1 in
     record {
       put = record { to = to; priority = priority; rounds = rounds; proposals = proposals; is = refl };
       round = ltb-true _ rounds a.0;
       one_of = ltb-true alternative _ b.0;
-      blind = blind_from (is_keyed to) alternative key b.1;
+      blind = blind_from (is_strategic to) alternative key b.1;
     }
 
 record FitsOpening (es : List Entry) (job alternative : ℕ) (previous : Option (List ℕ)) (key : List (List ℕ)) (o : Option Opening) : Type 0 where
@@ -228,7 +228,7 @@ unfolding may_try
 try_true es job tag alternative previous key h =
     let fits : fits_wish es job alternative key (Put h.to h.priority h.rounds h.proposals) ≡ true =
     and_from (nat_lt (length (trials_of job es)) h.rounds) _ (lt-ltb _ h.rounds h.round)
-    (and_from (nat_lt alternative (length h.proposals)) _ (lt-ltb alternative _ h.one_of) (blind_true (is_keyed h.to) alternative key h.blind)) in
+    (and_from (nat_lt alternative (length h.proposals)) _ (lt-ltb alternative _ h.one_of) (blind_true (is_strategic h.to) alternative key h.blind)) in
     let wish : fits_wish es job alternative key h.opening.ask.wish ≡ true = ap (fits_wish es job alternative key) h.unfinished.put ∙ fits in
     let opening : fits_opening es job alternative previous key (opening_of job es) ≡ true =
     ap (fits_opening es job alternative previous key) h.unfinished.opened

@@ -4,6 +4,7 @@ use Rattle.std.specs.List.{list_all}
 use Rattle.std.specs.Option.{option_eq}
 use Rattle.uss_intent.specs.Same.{same_text}
 use Rattle.uss_intent.specs.declared.records.State.{State}
+use Rattle.uss_intent.specs.States.{is_strategic}
 use Rattle.uss_event.specs.Plans.{is_plan}
 use Rattle.uss_event.specs.Transitions.{may_go}
 use Rattle.uss_event.specs.declared.details.Proposal.{Proposal}
@@ -13,7 +14,6 @@ use Rattle.uss_event.specs.declared.asks.FlightAsk.{FlightAsk}
 use Rattle.uss_event.specs.declared.entries.Ending.{Ending}
 use Rattle.uss_event.specs.declared.entries.Ending.TheVariants.{Conflict, Stale, Cancelled, Ended}
 use Rattle.uss_event.specs.declared.entries.Entry.{Entry}
-use Rattle.uss_law_dss.specs.Service.{is_keyed}
 use Rattle.uss_law_book.specs.Lists.{Opening, openings, trials}
 use Rattle.uss_law_book.specs.Readings.{opening_of, is_closed, is_open, open_job_of, last_of, has_ended, trials_of, owns, decision_of, base_of, is_put_job, is_ticket_open, is_ticket_gone, is_ticket_needed, owed_of, is_told}
 use Rattle.uss_law_book.specs.Attempts.{held_state}
@@ -54,7 +54,7 @@ is_blind false alternative key = (alternative == 0) && (length key == 0)
 abbrev pub fits_wish : List Entry → (job alternative : ℕ) → List (List ℕ) → Wish → Bool
 fits_wish es job alternative key End = false
 fits_wish es job alternative key (Put to priority rounds proposals) =
-    nat_lt (length (trials_of job es)) rounds && (nat_lt alternative (length proposals) && is_blind (is_keyed to) alternative key)
+    nat_lt (length (trials_of job es)) rounds && (nat_lt alternative (length proposals) && is_blind (is_strategic to) alternative key)
 
 abbrev pub fits_opening : List Entry → (job alternative : ℕ) → Option (List ℕ) → List (List ℕ) → Option Opening → Bool
 fits_opening es job alternative previous key None = false

@@ -2,14 +2,13 @@
 ghost use Rattle.std.specs.Prelude.{◌≡◌, is_some, length};
 ghost use Rattle.std.specs.Option.{option_copied, option_and_then, option_map, option_eq};
 ghost use Rattle.uss_intent.specs.Same.{same_text};
-ghost use Rattle.uss_law_dss.specs.Service.{is_keyed};
 ghost use Rattle.uss_law_book.specs.Readings.{puts, is_closed, is_open, is_put_job, is_ticket_gone, holding, is_by, needed_for, is_ticket_needed, owed_by, owed_of};
 ghost use Rattle.uss_legal.specs.Speaks.{opening_in, holding_in, decision_in, ending_in};
 ghost use Rattle.uss_legal.specs.Due.{is_open_put, may_open_ticket, is_blind, fits_wish, fits_opening, may_try, may_hold, may_end_so, may_end_opening, may_decide, may_retire, may_tell};
 
 use crate::Tells;
 use uss_event::{Ending, Entry, Wish};
-use uss_intent::{Ovn, Ovns, State};
+use uss_intent::{Ovn, Ovns};
 
 /// Whether a job recorded something or ended.
 pub fn is_closed<T: Tells>(book: &T, job: u64) -> bool
@@ -80,15 +79,6 @@ fn is_base(previous: &Option<Ovn>, recorded: Option<&Entry>) -> bool
     }
 }
 
-fn is_keyed(state: State) -> bool
-    ensures { result ≡ is_keyed state }
-{
-    match state {
-        State::Accepted | State::Activated => true,
-        State::Nonconforming | State::Contingent => false,
-    }
-}
-
 fn is_blind(keyed: bool, alternative: u8, key: &Ovns) -> bool
     ensures { result ≡ is_blind keyed alternative key.now }
 {
@@ -107,7 +97,7 @@ fn fits_wish<T: Tells>(book: &T, job: u64, alternative: u8, key: &Ovns, wish: &W
         } => {
             book.attempts(job) < usize::from(*rounds)
                 && usize::from(alternative) < proposals.len()
-                && is_blind(is_keyed(*to), alternative, key)
+                && is_blind(to.is_strategic(), alternative, key)
         }
         Wish::End => false,
     }

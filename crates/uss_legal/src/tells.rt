@@ -1,9 +1,10 @@
 ghost use Rattle.std.specs.Prelude.{◌≡◌, List, length, is_some};
 ghost use Rattle.std.specs.Option.{option_copied, option_and_then, option_map};
+ghost use Rattle.uss_intent.specs.Numbers.{is_one_of};
 ghost use Rattle.uss_event.specs.declared.entries.Entry.{Entry};
 ghost use Rattle.uss_law_book.specs.Legal.{is_new};
 ghost use Rattle.uss_law_book.specs.Lists.{owner_of, openings, trials, tickets_gone};
-ghost use Rattle.uss_law_book.specs.Readings.{opening_of, is_held, is_done, trials_of, trial_of, owns, decision_of, holding_of, ending_of, open_job_of, last_of, has_ended, last_holding, is_ticket_open, is_one_of, is_told};
+ghost use Rattle.uss_law_book.specs.Readings.{opening_of, is_held, is_done, trials_of, trial_of, owns, decision_of, holding_of, ending_of, open_job_of, last_of, has_ended, last_holding, is_ticket_open, is_told};
 ghost use Rattle.uss_legal.specs.Speaks.{opening_in, trial_in, holding_in, decision_in, ending_in};
 
 use uss_event::{Entry, Owner};

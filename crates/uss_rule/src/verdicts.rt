@@ -1,22 +1,14 @@
 ghost use Rattle.std.specs.Prelude.{◌≡◌, ◌&&◌, ◌++◌, not, nat_lt, nat_eq, option_copied, if◌then◌else◌};
 ghost use Rattle.uss_vol4.specs.Sharing.{any_shares};
+ghost use Rattle.uss_intent.specs.States.{is_strategic};
+ghost use Rattle.uss_intent.specs.Numbers.{is_one_of};
 ghost use Rattle.uss_event.specs.Plans.{extents_of};
-ghost use Rattle.uss_event.specs.Rules.{is_listed};
-ghost use Rattle.uss_event.specs.Verdicts.{is_strategic, is_activated, meet, is_excepted, verdict};
+ghost use Rattle.uss_event.specs.Verdicts.{is_activated, meet, is_excepted, verdict};
 ghost use Rattle.uss_rule.specs.Candidates.{candidate, flown};
 
 use uss_event::{Candidate, Details, Pair, RuleTable, Verdict};
 use uss_intent::{FlightId, State};
 use uss_vol4::Volume4;
-
-fn is_strategic(state: State) -> bool
-    ensures { result ≡ is_strategic state }
-{
-    match state {
-        State::Accepted | State::Activated => true,
-        State::Nonconforming | State::Contingent => false,
-    }
-}
 
 fn is_activated(state: State) -> bool
     ensures { result ≡ is_activated state }
@@ -55,12 +47,12 @@ fn are_looked_at(flight: FlightId, state: State, pair: &Pair) -> bool
     ensures { result ≡ ((is_strategic state && is_strategic pair.now.reference.state) && not (nat_eq flight pair.now.reference.flight)) }
 {
     let reference = pair.reference();
-    is_strategic(state) && is_strategic(reference.state) && flight != reference.flight
+    state.is_strategic() && reference.state.is_strategic() && flight != reference.flight
 }
 
 /// Whether the table or the order of the priorities speaks against the candidate, if the two share.
 fn is_weaker(table: &RuleTable, priority: u16, other: u16) -> bool
-    ensures { result ≡ (if nat_eq priority other then is_listed priority table.now else nat_lt priority other) }
+    ensures { result ≡ (if nat_eq priority other then is_one_of priority table.now else nat_lt priority other) }
 {
     if priority == other {
         table.forbids(priority)

@@ -1,0 +1,85 @@
+-- An exchange: a supplier's steps from a first event to the first that says something, each next event being the reply to the call of the
+-- step before. This project's own.
+use Rattle.std.specs.Prelude.{ℕ, ◌+◌, ◌*◌, ◌≤◌, ◌≡◌, max, ℤ, true, List, [], ◌∷◌, length, Option, Some, None}
+use Rattle.uss_intent.specs.declared.calls.DssReply.{DssReply}
+use Rattle.uss_event.specs.Fits.{peer_fits}
+use Rattle.uss_event.specs.declared.asks.FlightAsk.{FlightAsk}
+use Rattle.uss_event.specs.declared.calls.DssCall.{DssCall}
+use Rattle.uss_event.specs.declared.calls.PeerCall.{PeerCall}
+use Rattle.uss_event.specs.declared.calls.PeerReply.{PeerReply}
+use Rattle.uss_event.specs.declared.calls.Outgoing.{Outgoing}
+use Rattle.uss_event.specs.declared.calls.Outgoing.TheVariants as Goes
+use Rattle.uss_event.specs.declared.events.Said.TheVariants as Says
+use Rattle.uss_event.specs.declared.events.Event.{Event}
+use Rattle.uss_event.specs.declared.events.Event.TheVariants as Comes
+use Rattle.uss_law_dss.specs.Fits.{fits}
+use Rattle.uss_law_book.specs.Lists.{Opening}
+use Rattle.uss_law_book.specs.Readings.{open_job_of}
+use Rattle.uss_law_duty.specs.Duties.{book_after, says_something, clamped}
+use Rattle.uss_law_supplier.specs.Values.{Values, round_of}
+use Rattle.uss_law_supplier.specs.Turns.{Standing, Turn}
+use Rattle.uss_law_supplier.specs.Jobs.{found_by, rounds_of}
+use Rattle.uss_law_supplier.specs.Step.{stepped}
+use Rattle.uss_law_supplier.specs.Laws.{IsSound}
+
+-- a call that was made, and its reply
+pub data Exchanged : Type 0 where
+  OfDss : (call : DssCall) (reply : DssReply) → Exchanged
+  OfPeer : (call : PeerCall) (reply : PeerReply) → Exchanged
+
+abbrev pub call_in : Exchanged → Outgoing
+call_in (OfDss call reply) = Goes.Dss call
+call_in (OfPeer call reply) = Goes.Peer call
+
+abbrev pub event_in : Exchanged → Event
+event_in (OfDss call reply) = Comes.Dss call reply
+event_in (OfPeer call reply) = Comes.Peer call reply
+
+-- the supplier's step at a moment, and what the supplier stands on then
+abbrev pub turn_of : Standing → ℤ → Event → Turn
+turn_of s moment event = stepped s (clamped moment) event
+
+abbrev pub stands_then : Standing → Turn → Standing
+stands_then s t = record { owner = s.owner; book = book_after s.book t.entry; values = t.values }
+
+-- so far nothing was said, and each call was that of the step before
+abbrev pub IsBegun : Standing → ℤ → Event → List Exchanged → Type 0
+IsBegun s moment event [] = Unit {0}
+IsBegun s moment event (x ∷ xs) =
+    ((turn_of s moment event).said ≡ Says.Nothing) × ((turn_of s moment event).sends ≡ call_in x ∷ []) × IsBegun (stands_then s (turn_of s moment event)) moment (event_in x) xs
+
+-- the last step, and what stands before it
+abbrev pub last_turn : Standing → ℤ → Event → List Exchanged → Turn
+last_turn s moment event [] = turn_of s moment event
+last_turn s moment event (x ∷ xs) = last_turn (stands_then s (turn_of s moment event)) moment (event_in x) xs
+
+-- the exchange is whole: its last step says something
+abbrev pub IsExchange : Standing → ℤ → Event → List Exchanged → Type 0
+IsExchange s moment event xs = IsBegun s moment event xs × (says_something (last_turn s moment event xs).said ≡ true)
+
+-- how many calls were made, that of the last step too
+abbrev pub calls_made : Standing → ℤ → Event → List Exchanged → ℕ
+calls_made s moment event xs = length xs + length (last_turn s moment event xs).sends
+
+-- each reply fits its call
+abbrev pub AllFit : List Exchanged → Type 0
+AllFit [] = Unit {0}
+AllFit (OfDss call reply ∷ xs) = (fits call.ask reply ≡ true) × AllFit xs
+AllFit (OfPeer call reply ∷ xs) = (peer_fits call reply ≡ true) × AllFit xs
+
+-- the greatest number of references that a query of these gave
+abbrev pub most_found : List Exchanged → ℕ
+most_found [] = 0
+most_found (OfDss call reply ∷ xs) = max (length (found_by reply)) (most_found xs)
+most_found (OfPeer call reply ∷ xs) = most_found xs
+
+-- the number of references that the flight's open job had found before
+abbrev pub found_before : Values → Option Opening → ℕ
+found_before values None = 0
+found_before values (Some o) = length (round_of o.job values).found
+
+-- a request makes at most 4 calls, and in each of its rounds one for each reference that was found, and 2; an End has no rounds
+abbrev pub CallsAreBounded : Type 0
+CallsAreBounded =
+    (s : Standing) (moment : ℤ) (ask : FlightAsk) (xs : List Exchanged) → IsSound s.owner s.book s.values → IsBegun s moment (Comes.Ask ask) xs → AllFit xs
+    → calls_made s moment (Comes.Ask ask) xs ≤ 4 + rounds_of ask.wish * (2 + max (found_before s.values (open_job_of ask.flight s.book)) (most_found xs))

@@ -1,0 +1,59 @@
+-- What closed jobs have still to do. That subscribers are told of changes is after ASTM F3548-21; the order and the rest are this
+-- project's own.
+use Rattle.std.specs.Prelude.{ℕ, Bool, ◌&&◌, List, ◌++◌, take, drop, map, filter, filter_map, flat_map, slice_get, Option, Some, option_and_then}
+use Rattle.std.specs.Option.{option_map}
+use Rattle.uss_intent.specs.declared.records.Subscriber.{Subscriber}
+use Rattle.uss_intent.specs.Numbers.{is_one_of}
+use Rattle.uss_event.specs.declared.entries.Owner.{Owner}
+use Rattle.uss_event.specs.declared.entries.Entry.{Entry}
+use Rattle.uss_event.specs.declared.calls.Note.{Note}
+use Rattle.uss_event.specs.declared.calls.PeerCall.TheVariants as Calls
+use Rattle.uss_event.specs.declared.calls.Outgoing.{Outgoing}
+use Rattle.uss_event.specs.declared.calls.Outgoing.TheVariants as Goes
+use Rattle.uss_law_book.specs.Lists.{Opening, openings}
+use Rattle.uss_law_book.specs.Readings.{opening_of, owed_of, untold, is_closed, is_ticket_due}
+use Rattle.uss_law_book.specs.Attempts.{held}
+use Rattle.uss_law_duty.specs.Answers.{flight_of}
+use Rattle.uss_law_duty.specs.Sends.{ticket_remove}
+use Rattle.uss_law_supplier.specs.declared.duties.Chore.{Chore}
+use Rattle.uss_law_supplier.specs.declared.duties.Chore.TheVariants.{Tell, Retire}
+use Rattle.uss_law_supplier.specs.Turns.{Standing, Turn, sending, dss_call}
+
+-- the notifications that a job owes and that weren't answered, by their places
+abbrev pub tells_of : List Entry → Opening → List Chore
+tells_of book o = map (λ place. Tell o.job place) (untold o.job book)
+
+-- the job's ticket is to be taken out
+abbrev pub is_due : List Entry → Opening → Bool
+is_due book o = is_ticket_due o.job book
+
+-- first what is to be told, by job and place, and then the tickets to be taken out, by job
+unfoldable pub chores : List Entry → List Chore
+chores book = flat_map (tells_of book) (openings book) ++ map (λ (o : Opening). Retire o.job) (filter (is_due book) (openings book))
+
+-- the notification stands, and the ticket is to be taken out
+abbrev pub is_to_tell : ℕ → ℕ → List Entry → Bool
+is_to_tell job place book = is_closed job book && is_one_of place (untold job book)
+
+abbrev pub is_to_retire : ℕ → List Entry → Bool
+is_to_retire job book = is_ticket_due job book
+
+-- what a subscriber is told: what is held of the flight at the moment
+abbrev pub note_of : Owner → List Entry → Opening → Subscriber → Note
+note_of owner book o subscriber =
+    record { flight = flight_of owner o; pair = held o.ask.flight book; ticket = subscriber.ticket; index = subscriber.index }
+
+abbrev pub notify : Owner → List Entry → ℕ → Opening → Subscriber → Outgoing
+notify owner book place o subscriber = Goes.Peer (Calls.Notify o.job place subscriber.base (note_of owner book o subscriber))
+
+abbrev pub notify_of : Owner → List Entry → ℕ → Opening → Option Outgoing
+notify_of owner book place o = option_map (notify owner book place o) (slice_get (owed_of o.job book) place)
+
+-- the call of a chore
+abbrev pub chore_call : Owner → List Entry → Chore → Option Outgoing
+chore_call owner book (Tell job place) = option_and_then (notify_of owner book place) (opening_of job book)
+chore_call owner book (Retire job) = Some (dss_call job (ticket_remove owner job))
+
+-- a sweep makes the calls of at most 64 chores, after the first so many; none of them is waited for
+abbrev pub swept : Standing → ℕ → Turn
+swept s skip = sending s.values (filter_map (chore_call s.owner s.book) (take 64 (drop skip (chores s.book))))
