@@ -6,3 +6,7 @@ pub mod Fits
 pub mod Orderly
 pub mod Effects
 pub mod Transcript
+pub mod Telling
+pub mod Keyed
+pub mod Refusing
+pub mod Filling

@@ -21,6 +21,10 @@ ghost use Rattle.uss_law_dss.specs.Effects.{Effect};
 ghost use Rattle.uss_law_dss.specs.Orderly.{IsOrderly};
 ghost use Rattle.uss_law_dss.specs.Fits.{fits};
 ghost use Rattle.uss_law_dss.specs.Transcript.{calls, the_replies, contested, the_contested_replies};
+ghost use Rattle.uss_law_dss.specs.Telling.{telling, the_telling_replies};
+ghost use Rattle.uss_law_dss.specs.Keyed.{keyed, the_keyed_replies};
+ghost use Rattle.uss_law_dss.specs.Refusing.{refusing, the_refusing_replies};
+ghost use Rattle.uss_law_dss.specs.Filling.{many_references, filling_references, the_references_replies, many_tickets, filling_tickets, the_tickets_replies, late_version, last_changes, the_last_replies};
 
 /// The worked calls, and the replies to them in order.
 pub fn worked_calls()
@@ -30,6 +34,28 @@ pub fn worked_calls()
 /// Two clients over one area: the key, the references that it lacks, who is told, and what is shown to whom.
 pub fn contested_calls()
     ensures { replies_to empty contested ≡ the_contested_replies }
+{}
+
+/// A change tells the tickets of the place that was left, too; a removal tells those of the place that is removed.
+pub fn telling_calls()
+    ensures { replies_to empty telling ≡ the_telling_replies }
+{}
+
+/// What a key has to have, and what a refusal for want of it lists.
+pub fn keyed_calls()
+    ensures { replies_to empty keyed ≡ the_keyed_replies }
+{}
+
+/// Calls that are refused, each kind for each of its reasons, and calls at a limit that are not.
+pub fn refused_calls()
+    ensures { replies_to empty refusing ≡ the_refusing_replies }
+{}
+
+/// A service that is full of references or tickets, and a reference in its last version.
+pub fn last_calls()
+    ensures references { replies_to many_references filling_references ≡ the_references_replies }
+    ensures tickets { replies_to many_tickets filling_tickets ≡ the_tickets_replies }
+    ensures versions { replies_to late_version last_changes ≡ the_last_replies }
 {}
 
 /// Which references are relevant to a change, which of them a query finds, and which tickets are told: those that have
