@@ -20,7 +20,7 @@ use Rattle.uss_law_book.specs.Attempts.{attempt_of}
 use Rattle.uss_law_duty.specs.Heard.News.{Heard}
 use Rattle.uss_law_world.specs.World.{Supplier, Post, World, supplier_in, book_in, heard_in, name_in, book_of, heard_of, name_of, post_at, start}
 use Rattle.uss_law_world.specs.World.Post.{Called, Replied, Asked, Answered}
-use Rattle.uss_law_world.specs.Moves.{Move, Arrival, to_one, event_by, arrival_by, arrival_of, fault_by, fault_of, posts_of, restarted, after_step, after_restart, arrives, brings, marked, comes, delivers, takes, next_message, delivers_next, drains, marked_by, stops, happens, run}
+use Rattle.uss_law_world.specs.Moves.{Move, Arrival, to_one, event_by, arrival_by, arrival_of, fault_by, fault_of, posts_of, restarted, after_step, after_restart, arrives, brings, marked, comes, delivers, takes, next_message, delivers_next, drains, marked_by, stops, loses, happens, run}
 use Rattle.uss_law_world.specs.Moves.{Move as Moves}
 use Rattle.uss_law_world.specs.Free.{AreSuppliers, MayTake, MayDrain, arrival_of_next, MayStop, IsAllowed, IsFree}
 use Rattle.uss_law_world.specs.Claims.{rank_of}
@@ -206,6 +206,10 @@ module _ (table : List ℕ) (owners : List Owner) (names : AreSuppliers table ow
       (restart_facts after a.supplier (act_facts table owners w names j a c posts (λ p h. has_taken sent (posts_of w a c) p h) (m refl) (f a refl)))
   stops_facts w false sent step c (Some a) m f j = restart_facts w a.supplier j
 
+  loses_facts : (w : World) (k : ℕ) (o : Option Post) → Facts table owners w → Facts table owners (loses w k o)
+  loses_facts w k None j = j
+  loses_facts w k (Some p) j = mark_facts w w.delivered (w.lost ++ k ∷ []) w.moment j
+
   may_stop : (w : World) (kept : Bool) (step : Stopped) (c : Choice) → MayStop w kept step c → kept ≡ true → MayTake w c (arrival_of w step)
   may_stop w true step c m e = m
   may_stop w false step c m e = cc
@@ -213,7 +217,7 @@ module _ (table : List ℕ) (owners : List Owner) (names : AreSuppliers table ow
   pub move_facts : (w : World) (m : Move) → IsAllowed w m → Facts table owners w → Facts table owners (happens w m)
   move_facts w (Moves.Now moment) h j = mark_facts w w.delivered w.lost moment j
   move_facts w (Moves.Takes step c) h j = takes_facts w step c h j
-  move_facts w (Moves.Lose k) h j = mark_facts w w.delivered (w.lost ++ k ∷ []) w.moment j
+  move_facts w (Moves.Lose k) h j = loses_facts w k (post_at k w) j
   move_facts w (Moves.Drain cs) h j = drains_facts cs w h j
   move_facts w (Moves.Fault k c) h j = arrives_facts w c (fault_of w k) h (fault_comes w (post_at k w)) j
   move_facts w (Moves.Restart s) h j = restart_facts w s j

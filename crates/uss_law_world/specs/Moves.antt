@@ -234,11 +234,19 @@ stops w kept sent step c None = w
 stops w true sent step c (Some a) = marked_by step (after_restart (after_step w a c (take sent (posts_of w a c))) a.supplier)
 stops w false sent step c (Some a) = after_restart w a.supplier
 
--- the world after a move
+-- a message is passed over from now on; one that was never sent isn't
+abbrev pub loses : World → ℕ → Option Post → World
+loses w k None = w
+loses w k (Some post) = record w { lost = w.lost ++ k ∷ [] }
+
+-- The world after a move. A delivery, a loss, a fault or a stop that names a message which was never sent changes nothing: nothing is
+-- marked, and nobody restarts; a drain finds sent messages alone. Only a delivery marks a message as delivered, be it one of a drain or
+-- one within which a supplier stops once its entry is kept; a fault marks nothing. A message that is passed over still comes where a
+-- step names it.
 abbrev pub happens : World → Move → World
 happens w (Now moment) = record w { moment = moment }
 happens w (Takes step c) = takes w step c
-happens w (Lose k) = record w { lost = w.lost ++ k ∷ [] }
+happens w (Lose k) = loses w k (post_at k w)
 happens w (Drain cs) = drains w cs
 happens w (Fault k c) = arrives w c (fault_of w k)
 happens w (Restart s) = after_restart w s
