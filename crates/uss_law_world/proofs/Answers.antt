@@ -25,7 +25,7 @@ use Rattle.uss_law_book.proofs.EachOrderly.{legal_is_orderly}
 use Rattle.uss_law_duty.specs.Answers.{by_end, job_of_request}
 use Rattle.uss_law_world.specs.World.{Post, Saying, World, book_of, post_at}
 use Rattle.uss_law_world.specs.World.Post.{Called, Replied, Asked, Answered}
-use Rattle.uss_law_world.specs.Moves.{Move, Arrival, arrival_by, arrival_of, arrives, brings, comes, takes, next_message, delivers_next, drains, marked_by, after_restart, after_step, stops, happens, run, fault_of}
+use Rattle.uss_law_world.specs.Moves.{Move, Arrival, arrival_by, arrival_of, arrives, brings, comes, takes, next_message, delivers_next, drains, marked_by, after_restart, after_step, stops, loses, happens, run, fault_of}
 use Rattle.uss_law_world.specs.Moves.{Move as Moves}
 use Rattle.uss_law_world.specs.Free.{AreSuppliers}
 use Rattle.uss_law_world.specs.Claims.{IsLandingOf, IsRecordedSo, IsTrueAnswer, IsTrueOfRequest, SaysTrue}
@@ -75,10 +75,14 @@ stops_says w kept sent step c None x h = h
 stops_says w true sent step c (Some a) x h = marked_says step (after_restart (after_step w a c _) a.supplier) x (has_left w.sayings _ x h)
 stops_says w false sent step c (Some a) x h = h
 
+loses_says : (w : World) (k : ℕ) (o : Option Post) (x : Saying) → Has w.sayings x → Has (loses w k o).sayings x
+loses_says w k None x h = h
+loses_says w k (Some p) x h = h
+
 move_says : (w : World) (m : Move) (x : Saying) → Has w.sayings x → Has (happens w m).sayings x
 move_says w (Moves.Now moment) x h = h
 move_says w (Moves.Takes step c) x h = takes_says w step c x h
-move_says w (Moves.Lose k) x h = h
+move_says w (Moves.Lose k) x h = loses_says w k (post_at k w) x h
 move_says w (Moves.Drain cs) x h = drains_says cs w x h
 move_says w (Moves.Fault k c) x h = arrives_says w c (fault_of w k) x h
 move_says w (Moves.Restart s) x h = h

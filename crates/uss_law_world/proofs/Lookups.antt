@@ -6,8 +6,8 @@ use Rattle.uss_event.specs.declared.entries.Owner.{Owner}
 use Rattle.uss_law_dss.specs.Lists.{Has}
 use Rattle.uss_law_dss.proofs.Lists.{find_has}
 use Rattle.uss_law_dss.proofs.Tests.{same_number, equal_number, other_number, unequal_number}
-use Rattle.uss_law_world.specs.World.{Supplier, supplier_in}
-use Rattle.uss_law_world.specs.Moves.{changed, with_supplier}
+use Rattle.uss_law_world.specs.World.{Supplier, World, supplier_in}
+use Rattle.uss_law_world.specs.Moves.{Arrival, if_there, to_one, changed, with_supplier}
 
 pub same_flight : (s t f g : ℕ) → f < 2 ^ 64 → g < 2 ^ 64 → flight_number s f ≡ flight_number t g → (s ≡ t) × (f ≡ g)
 same_flight s t f g a b h =
@@ -26,6 +26,24 @@ same_ticket s t j k a b h =
 pub has_found : (s : ℕ) (xs : List Supplier) (x : Supplier) → supplier_in s xs ≡ Some x → Has xs x × (x.owner.number ≡ s)
 unfolding supplier_in
 has_found s xs x h = let f = find_has (λ (y : Supplier). y.owner.number == s) xs x h in (f.0, same_number x.owner.number s f.1)
+
+-- what comes to somebody is what was for it, and it is there
+pub record Came (w : World) (b a : Arrival) : Type 0 where
+  pub is : b ≡ a
+  pub supplier : Supplier
+  pub there : supplier_in a.supplier w.suppliers ≡ Some supplier
+
+pub came : (w : World) (b a : Arrival) → to_one w b ≡ Some a → Came w b a
+came w b a e = go (supplier_in b.supplier w.suppliers) refl e
+  where
+    same : (x y : Arrival) → Some x ≡ Some y → x ≡ y
+    same x y q = cc
+
+    go : (o : Option Supplier) → supplier_in b.supplier w.suppliers ≡ o → if_there o b ≡ Some a → Came w b a
+    go None f q = cc
+    go (Some x) f q =
+        let is : b ≡ a = same b a q in
+        record { is = is; supplier = x; there = subst (λ (z : Arrival). supplier_in z.supplier w.suppliers ≡ Some x) is f }
 
 -- the change leaves whose supplier it is
 abbrev pub KeepsOwner : (Supplier → Supplier) → Type 0

@@ -20,11 +20,11 @@ use Rattle.uss_law_book.specs.Attempts.{attempt_of}
 use Rattle.uss_law_duty.specs.Heard.News.{Heard}
 use Rattle.uss_law_world.specs.World.{Supplier, Post, World, supplier_in, book_in, heard_in, name_in, book_of, heard_of, name_of, post_at, start}
 use Rattle.uss_law_world.specs.World.Post.{Called, Replied, Asked, Answered}
-use Rattle.uss_law_world.specs.Moves.{Move, Arrival, event_by, arrival_by, arrival_of, fault_by, fault_of, posts_of, restarted, after_step, after_restart, arrives, brings, marked, comes, delivers, takes, next_message, delivers_next, drains, marked_by, stops, happens, run}
+use Rattle.uss_law_world.specs.Moves.{Move, Arrival, to_one, event_by, arrival_by, arrival_of, fault_by, fault_of, posts_of, restarted, after_step, after_restart, arrives, brings, marked, comes, delivers, takes, next_message, delivers_next, drains, marked_by, stops, loses, happens, run}
 use Rattle.uss_law_world.specs.Moves.{Move as Moves}
 use Rattle.uss_law_world.specs.Free.{AreSuppliers, MayTake, MayDrain, arrival_of_next, MayStop, IsAllowed, IsFree}
 use Rattle.uss_law_world.specs.Claims.{rank_of}
-use Rattle.uss_law_world.proofs.Lookups.{at_any}
+use Rattle.uss_law_world.proofs.Lookups.{at_any, came}
 use Rattle.uss_law_world.proofs.Facts.{IsSound, IsStanding, Facts}
 use Rattle.uss_law_world.proofs.Grows.{Grows, News, kept, entered_still}
 use Rattle.uss_law_world.proofs.Calls.{call_facts}
@@ -105,29 +105,29 @@ event_comes : (w : World) (s from : ℕ) (client : List ℕ) (call : PeerCall) �
 event_comes w s from client (Calls.Details job flight manager base) h = tt
 event_comes w s from client (Calls.Notify job place base note) h = record { from = from; to = Some s; job = job; place = place; base = base; sent = h }
 
+came_comes : (w : World) (b a : Arrival) → Comes w b.supplier b.event → to_one w b ≡ Some a → Comes w a.supplier a.event
+came_comes w b a h e = subst (λ (z : Arrival). Comes w z.supplier z.event) (came w b a e).is h
+
 arrival_comes : (w : World) (k : ℕ) (o : Option Post) → ((p : Post) → o ≡ Some p → Has w.posts p) → (a : Arrival) → arrival_by w k o ≡ Some a → Comes w a.supplier a.event
 arrival_comes w k None f a e = cc
 arrival_comes w k (Some (Called from call)) f a e = cc
-arrival_comes w k (Some (Replied to answered call reply)) f a e =
-    subst (λ (z : Arrival). Comes w z.supplier z.event) (some_same _ a e) (answered, f (Replied to answered call reply) refl)
+arrival_comes w k (Some (Replied to answered call reply)) f a e = came_comes w _ a (answered, f (Replied to answered call reply) refl) e
 arrival_comes w k (Some (Asked from None call)) f a e = cc
-arrival_comes w k (Some (Asked from (Some to) call)) f a e =
-    subst (λ (z : Arrival). Comes w z.supplier z.event) (some_same _ a e) (event_comes w to from (name_of from w) call (f (Asked from (Some to) call) refl))
-arrival_comes w k (Some (Answered to answered call reply)) f a e =
-    subst (λ (z : Arrival). Comes w z.supplier z.event) (some_same _ a e) (answered, f (Answered to answered call reply) refl)
+arrival_comes w k (Some (Asked from (Some to) call)) f a e = came_comes w _ a (event_comes w to from (name_of from w) call (f (Asked from (Some to) call) refl)) e
+arrival_comes w k (Some (Answered to answered call reply)) f a e = came_comes w _ a (answered, f (Answered to answered call reply) refl) e
 
 step_comes : (w : World) (step : Stopped) (a : Arrival) → arrival_of w step ≡ Some a → Comes w a.supplier a.event
-step_comes w (Turns.Ask s ask) a e = subst (λ (z : Arrival). Comes w z.supplier z.event) (some_same _ a e) tt
-step_comes w (Turns.Cancel s flight number) a e = subst (λ (z : Arrival). Comes w z.supplier z.event) (some_same _ a e) tt
-step_comes w (Turns.Position s ask) a e = subst (λ (z : Arrival). Comes w z.supplier z.event) (some_same _ a e) tt
-step_comes w (Turns.Sweep s skip) a e = subst (λ (z : Arrival). Comes w z.supplier z.event) (some_same _ a e) tt
+step_comes w (Turns.Ask s ask) a e = came_comes w _ a tt e
+step_comes w (Turns.Cancel s flight number) a e = came_comes w _ a tt e
+step_comes w (Turns.Position s ask) a e = came_comes w _ a tt e
+step_comes w (Turns.Sweep s skip) a e = came_comes w _ a tt e
 step_comes w (Turns.Deliver k) a e = arrival_comes w k (post_at k w) (post_has k w) a e
 
-fault_comes : (w : World) (o : Option Post) (a : Arrival) → fault_by o ≡ Some a → Comes w a.supplier a.event
+fault_comes : (w : World) (o : Option Post) (a : Arrival) → fault_by w o ≡ Some a → Comes w a.supplier a.event
 fault_comes w None a e = cc
-fault_comes w (Some (Called from call)) a e = subst (λ (z : Arrival). Comes w z.supplier z.event) (some_same _ a e) tt
+fault_comes w (Some (Called from call)) a e = came_comes w _ a tt e
 fault_comes w (Some (Replied to answered call reply)) a e = cc
-fault_comes w (Some (Asked from to call)) a e = subst (λ (z : Arrival). Comes w z.supplier z.event) (some_same _ a e) tt
+fault_comes w (Some (Asked from to call)) a e = came_comes w _ a tt e
 fault_comes w (Some (Answered to answered call reply)) a e = cc
 
 module _ (table : List ℕ) (owners : List Owner) (names : AreSuppliers table owners) where
@@ -206,6 +206,10 @@ module _ (table : List ℕ) (owners : List Owner) (names : AreSuppliers table ow
       (restart_facts after a.supplier (act_facts table owners w names j a c posts (λ p h. has_taken sent (posts_of w a c) p h) (m refl) (f a refl)))
   stops_facts w false sent step c (Some a) m f j = restart_facts w a.supplier j
 
+  loses_facts : (w : World) (k : ℕ) (o : Option Post) → Facts table owners w → Facts table owners (loses w k o)
+  loses_facts w k None j = j
+  loses_facts w k (Some p) j = mark_facts w w.delivered (w.lost ++ k ∷ []) w.moment j
+
   may_stop : (w : World) (kept : Bool) (step : Stopped) (c : Choice) → MayStop w kept step c → kept ≡ true → MayTake w c (arrival_of w step)
   may_stop w true step c m e = m
   may_stop w false step c m e = cc
@@ -213,7 +217,7 @@ module _ (table : List ℕ) (owners : List Owner) (names : AreSuppliers table ow
   pub move_facts : (w : World) (m : Move) → IsAllowed w m → Facts table owners w → Facts table owners (happens w m)
   move_facts w (Moves.Now moment) h j = mark_facts w w.delivered w.lost moment j
   move_facts w (Moves.Takes step c) h j = takes_facts w step c h j
-  move_facts w (Moves.Lose k) h j = mark_facts w w.delivered (w.lost ++ k ∷ []) w.moment j
+  move_facts w (Moves.Lose k) h j = loses_facts w k (post_at k w) j
   move_facts w (Moves.Drain cs) h j = drains_facts cs w h j
   move_facts w (Moves.Fault k c) h j = arrives_facts w c (fault_of w k) h (fault_comes w (post_at k w)) j
   move_facts w (Moves.Restart s) h j = restart_facts w s j

@@ -26,7 +26,7 @@ use Rattle.uss_law_book.specs.Lists.{Opening}
 use Rattle.uss_law_duty.specs.Heard.{News}
 use Rattle.uss_law_duty.specs.Answers.{job_of_call, job_named}
 use Rattle.uss_law_duty.specs.Duties.{book_after, Choice}
-use Rattle.uss_law_world.specs.World.{Supplier, Post, Saying, World, book_of, name_of, post_at, post_of}
+use Rattle.uss_law_world.specs.World.{Supplier, Post, Saying, World, supplier_in, book_of, name_of, post_at, post_of}
 use Rattle.uss_law_world.specs.World.Post.{Called, Replied, Asked, Answered}
 
 -- what may happen, each step of a supplier with what the supplier chose
@@ -35,7 +35,7 @@ pub data Move : Type 0 where
   Now : (moment : ℤ) → Move
   -- an operator asks something of a supplier, a supplier is told to send what it owes, or a message comes, for the first time or again
   Takes : (step : Stopped) (choice : Choice) → Move
-  -- the message is passed over from now on
+  -- the message is passed over from now on; nothing changes where it was never sent
   Lose : (message : ℕ) → Move
   -- so many times, the least message comes that was never delivered and isn't passed over
   Drain : (choices : List Choice) → Move
@@ -80,34 +80,43 @@ abbrev pub event_by : List ℕ → PeerCall → Event
 event_by client (Calls.Details job flight manager base) = Comes.Details client flight
 event_by client (Calls.Notify job place base note) = Comes.Notified client note
 
+-- what is for a supplier that isn't there comes to nobody
+abbrev pub if_there : Option Supplier → Arrival → Option Arrival
+if_there None a = None
+if_there (Some x) a = Some a
+
+abbrev pub to_one : World → Arrival → Option Arrival
+to_one w a = if_there (supplier_in a.supplier w.suppliers) a
+
 -- what a message with this number brings to a supplier; a call of the discovery service, or of a supplier that doesn't exist, brings
--- nothing
+-- nothing, and neither does a message that was never sent
 abbrev pub arrival_by : World → ℕ → Option Post → Option Arrival
 arrival_by w k None = None
 arrival_by w k (Some (Called from call)) = None
-arrival_by w k (Some (Replied to answered call reply)) = Some (record { supplier = to; event = Comes.Dss call reply; asker = None })
+arrival_by w k (Some (Replied to answered call reply)) = to_one w (record { supplier = to; event = Comes.Dss call reply; asker = None })
 arrival_by w k (Some (Asked from None call)) = None
 arrival_by w k (Some (Asked from (Some to) call)) =
-    Some (record { supplier = to; event = event_by (name_of from w) call; asker = Some (record { number = k; from = from; call = call }) })
-arrival_by w k (Some (Answered to answered call reply)) = Some (record { supplier = to; event = Comes.Peer call reply; asker = None })
+    to_one w (record { supplier = to; event = event_by (name_of from w) call; asker = Some (record { number = k; from = from; call = call }) })
+arrival_by w k (Some (Answered to answered call reply)) = to_one w (record { supplier = to; event = Comes.Peer call reply; asker = None })
 
+-- what a step brings to a supplier
 abbrev pub arrival_of : World → Stopped → Option Arrival
-arrival_of w (Turns.Ask s ask) = Some (record { supplier = s; event = Comes.Ask ask; asker = None })
-arrival_of w (Turns.Cancel s flight number) = Some (record { supplier = s; event = Comes.Cancel flight number; asker = None })
-arrival_of w (Turns.Position s ask) = Some (record { supplier = s; event = Comes.Position ask; asker = None })
-arrival_of w (Turns.Sweep s skip) = Some (record { supplier = s; event = Comes.Sweep skip; asker = None })
+arrival_of w (Turns.Ask s ask) = to_one w (record { supplier = s; event = Comes.Ask ask; asker = None })
+arrival_of w (Turns.Cancel s flight number) = to_one w (record { supplier = s; event = Comes.Cancel flight number; asker = None })
+arrival_of w (Turns.Position s ask) = to_one w (record { supplier = s; event = Comes.Position ask; asker = None })
+arrival_of w (Turns.Sweep s skip) = to_one w (record { supplier = s; event = Comes.Sweep skip; asker = None })
 arrival_of w (Turns.Deliver k) = arrival_by w k (post_at k w)
 
--- who is told that a call failed; a reply is no call
-abbrev pub fault_by : Option Post → Option Arrival
-fault_by None = None
-fault_by (Some (Called from call)) = Some (record { supplier = from; event = Comes.Failed call.job; asker = None })
-fault_by (Some (Replied to answered call reply)) = None
-fault_by (Some (Asked from to call)) = Some (record { supplier = from; event = Comes.Failed (job_of_call call); asker = None })
-fault_by (Some (Answered to answered call reply)) = None
+-- who is told that a call failed; a reply is no call, and neither is a message that was never sent
+abbrev pub fault_by : World → Option Post → Option Arrival
+fault_by w None = None
+fault_by w (Some (Called from call)) = to_one w (record { supplier = from; event = Comes.Failed call.job; asker = None })
+fault_by w (Some (Replied to answered call reply)) = None
+fault_by w (Some (Asked from to call)) = to_one w (record { supplier = from; event = Comes.Failed (job_of_call call); asker = None })
+fault_by w (Some (Answered to answered call reply)) = None
 
 abbrev pub fault_of : World → ℕ → Option Arrival
-fault_of w k = fault_by (post_at k w)
+fault_of w k = fault_by w (post_at k w)
 
 -- the reply to a call of another supplier, by what was said to it
 abbrev pub pair_reply : Option OperationalIntent → PeerReply
@@ -225,11 +234,19 @@ stops w kept sent step c None = w
 stops w true sent step c (Some a) = marked_by step (after_restart (after_step w a c (take sent (posts_of w a c))) a.supplier)
 stops w false sent step c (Some a) = after_restart w a.supplier
 
--- the world after a move
+-- a message is passed over from now on; one that was never sent isn't
+abbrev pub loses : World → ℕ → Option Post → World
+loses w k None = w
+loses w k (Some post) = record w { lost = w.lost ++ k ∷ [] }
+
+-- The world after a move. A delivery, a loss, a fault or a stop that names a message which was never sent changes nothing: nothing is
+-- marked, and nobody restarts; a drain finds sent messages alone. Only a delivery marks a message as delivered, be it one of a drain or
+-- one within which a supplier stops once its entry is kept; a fault marks nothing. A message that is passed over still comes where a
+-- step names it.
 abbrev pub happens : World → Move → World
 happens w (Now moment) = record w { moment = moment }
 happens w (Takes step c) = takes w step c
-happens w (Lose k) = record w { lost = w.lost ++ k ∷ [] }
+happens w (Lose k) = loses w k (post_at k w)
 happens w (Drain cs) = drains w cs
 happens w (Fault k c) = arrives w c (fault_of w k)
 happens w (Restart s) = after_restart w s
