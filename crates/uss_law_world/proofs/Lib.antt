@@ -18,4 +18,5 @@ pub mod WorkedRuns
 pub mod Product
 pub mod Between
 pub mod EachStep
+pub mod Refused
 pub mod Contested

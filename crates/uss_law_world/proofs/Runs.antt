@@ -181,7 +181,7 @@ module _ (table : List ℕ) (owners : List Owner) (names : AreSuppliers table ow
   takes_facts w (Turns.Sweep s skip) c m j = arrives_facts w c (arrival_of w (Turns.Sweep s skip)) m (step_comes w (Turns.Sweep s skip)) j
   takes_facts w (Turns.Deliver k) c m j = delivers_facts w k c m j
 
-  next_facts : (w : World) (c : Choice) (o : Option ℕ) → MayTake w c (arrival_of_next w o) → Facts table owners w → Facts table owners (delivers_next w c o)
+  pub next_facts : (w : World) (c : Choice) (o : Option ℕ) → MayTake w c (arrival_of_next w o) → Facts table owners w → Facts table owners (delivers_next w c o)
   next_facts w c None m j = j
   next_facts w c (Some k) m j = delivers_facts w k c m j
 

@@ -17,7 +17,7 @@ pub record AreSuppliers (table : List ℕ) (owners : List Owner) : Type 0 where
   pub one_table : (o : Owner) → Has owners o → o.table ≡ table
   pub names : (o p : Owner) → Has owners o → Has owners p → o.name ≡ p.name → o.number ≡ p.number
 
--- the supplier may do so when this comes to it
+-- the supplier may do so when this comes to it; what comes to nobody asks for nothing
 abbrev pub MayTake : World → Choice → Option Arrival → Type 0
 MayTake w c None = Unit {0}
 MayTake w c (Some a) = MayStep (book_of a.supplier w) (heard_of a.supplier w) (clamped w.moment) a.event c.entry c.sends c.said c.heard

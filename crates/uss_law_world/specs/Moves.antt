@@ -1,7 +1,6 @@
 -- What may happen in the world, step by step, and what comes of it. This project's own.
-use Rattle.std.specs.Prelude.{ℕ, ℤ, pos, Bool, true, false, not, ◌&&◌, ◌==◌, List, [], ◌∷◌, ◌++◌, length, map, take, find, Option, Some, None, if◌then◌else◌}
+use Rattle.std.specs.Prelude.{ℕ, ℤ, Bool, true, false, not, ◌&&◌, ◌==◌, List, [], ◌∷◌, ◌++◌, length, map, take, find, Option, Some, None, if◌then◌else◌}
 use Rattle.std.specs.List.{range_with_len}
-use Rattle.std.specs.Int.{int_min, int_max}
 use Rattle.uss_intent.specs.declared.calls.DssReply.{DssReply}
 use Rattle.uss_intent.specs.Numbers.{is_one_of}
 use Rattle.uss_event.specs.Pairs.{OperationalIntent}
@@ -11,7 +10,6 @@ use Rattle.uss_event.specs.declared.calls.PeerCall.{PeerCall}
 use Rattle.uss_event.specs.declared.calls.PeerCall.TheVariants as Calls
 use Rattle.uss_event.specs.declared.calls.PeerReply.{PeerReply}
 use Rattle.uss_event.specs.declared.calls.PeerReply.TheVariants as Peers
-use Rattle.uss_event.specs.declared.calls.Outgoing.{Outgoing}
 use Rattle.uss_event.specs.declared.events.Said.{Said}
 use Rattle.uss_event.specs.declared.events.Said.TheVariants as Says
 use Rattle.uss_event.specs.declared.events.Event.{Event}
@@ -23,7 +21,6 @@ use Rattle.uss_event.specs.declared.steps.Stopped.TheVariants as Turns
 use Rattle.uss_law_dss.specs.Service.{Service}
 use Rattle.uss_law_dss.specs.Step.{service_step}
 use Rattle.uss_law_book.specs.Lists.{Opening}
-use Rattle.uss_law_duty.specs.Heard.{News}
 use Rattle.uss_law_duty.specs.Answers.{job_of_call, job_named}
 use Rattle.uss_law_duty.specs.Duties.{book_after, Choice}
 use Rattle.uss_law_world.specs.World.{Supplier, Post, Saying, World, supplier_in, book_of, name_of, post_at, post_of}

@@ -2,11 +2,12 @@
 //! that runs.
 //!
 //! `specs/World.antt` has the world, `specs/Moves.antt` what may happen in it and what comes of that, `specs/Free.antt` which lists of
-//! moves are free, `specs/Claims.antt` what is claimed, and `specs/Worked.antt` and `specs/Contested.antt` worked runs. In a free list of
-//! moves each step of a supplier is any that its duties allow (`MayStep` of `uss_law_duty`), and each step of the discovery service is
-//! that of its definition (`service_step` of `uss_law_dss`); messages are lost, come late or come again, and suppliers stop and restart
-//! at any moment. The functions below do nothing: their contracts carry the laws. `proofs/Facts.antt` has what is kept by every move;
-//! the proofs of the laws stand on nothing else.
+//! moves are free, `specs/Refused.antt` which steps of a script the world refuses, `specs/Claims.antt` what is claimed, and
+//! `specs/Worked.antt` and `specs/Contested.antt` worked runs. In a free list of moves each step of a supplier is any that its duties
+//! allow (`MayStep` of `uss_law_duty`), and each step of the discovery service is that of its definition (`service_step` of
+//! `uss_law_dss`); messages are lost, come late or come again, and suppliers stop and restart at any moment. The functions below do
+//! nothing: their contracts carry the laws. `proofs/Facts.antt` has what is kept by every move; the proofs of the laws stand on
+//! nothing else.
 //!
 //! Which clauses of `MayStep` the laws need: all of them `legal` and `records`; `keys`, `hears`, `pair`, `notes` and `held` that intents
 //! stay apart, that landings are clear and that pairs are made; `held`, `removals` and `final` that final answers are true; `held`,
@@ -16,17 +17,18 @@
 //! when a ticket may be taken out: those duties keep a supplier from getting in its own way.
 #![tactic(auto)]
 
-ghost use Rattle.std.specs.Prelude.{◌≡◌, ◌≤◌, ◌++◌, [], ◌∷◌, List, ℕ};
+ghost use Rattle.std.specs.Prelude.{◌≡◌, ◌≤◌, ◌++◌, [], ◌∷◌, List, ℕ, Some};
 ghost use Rattle.uss_event.specs.declared.entries.Owner.{Owner};
 ghost use Rattle.uss_event.specs.declared.events.Answer.TheVariants as Answers;
 ghost use Rattle.uss_event.specs.declared.events.Said.TheVariants as Says;
 ghost use Rattle.uss_event.specs.Rules.{IsTable};
 ghost use Rattle.uss_law_world.specs.Suppliers.{numbered_owners};
 ghost use Rattle.uss_law_duty.specs.Worked.{owner, planned};
-ghost use Rattle.uss_law_world.specs.World.{start};
-ghost use Rattle.uss_law_world.specs.Moves.{Move, step_of, run};
+ghost use Rattle.uss_law_world.specs.World.{World, start};
+ghost use Rattle.uss_law_world.specs.Moves.{Move, step_of, happens, run};
 ghost use Rattle.uss_event.specs.declared.steps.Step.{Step};
-ghost use Rattle.uss_law_world.specs.Free.{AreSuppliers, IsFree};
+ghost use Rattle.uss_law_world.specs.Free.{AreSuppliers, IsAllowed, IsFree};
+ghost use Rattle.uss_law_world.specs.Refused.{step_refusal};
 ghost use Rattle.uss_law_world.specs.Worked.{said_in, replies_in, saying, found_again, found_again_replies, cancelled_early, cancelled_early_replies, second, both_put, both_put_replies};
 ghost use Rattle.uss_law_world.specs.Contested.{given_up, given_up_replies, given_up_sayings};
 ghost use Rattle.uss_law_world.specs.Claims.{EachIsIntended, NoneForbidden, EachAtMostOnce, FinalAnswersAreTrue, LandingsAreClear, RefusalsAreSettled, EachPairIsMade, OpenLandingsStay, OpenLandingsAreGot, BooksAgree};
@@ -116,7 +118,15 @@ pub fn numbered_suppliers_have_their_own_names()
     ensures { (table : List ℕ) (n : ℕ) → n ≤ 64 → IsTable table → AreSuppliers table (numbered_owners n table) }
 {}
 
-/// Each step of a script is a move.
+/// In every reached world each step of a script is a move that is allowed: suppliers always may do something, also in each delivery of a
+/// drain.
 pub fn each_step_of_a_script_is_a_move()
-    ensures { (step : Step) → (move : Move) × (step_of move ≡ step) }
+    ensures { (table : List ℕ) (owners : List Owner) (moves : List Move) → AreSuppliers table owners → IsFree (start owners) moves
+        → (step : Step) → (move : Move) × (step_of move ≡ step) × IsAllowed (run (start owners) moves) move }
+{}
+
+/// A step that the world refuses changes nothing, whatever a supplier would have chosen, and so every choice is allowed in it.
+pub fn a_refused_step_changes_nothing()
+    ensures unchanged { (w : World) (move : Move) (number : ℕ) → step_refusal w (step_of move) ≡ Some number → happens w move ≡ w }
+    ensures allowed { (w : World) (move : Move) (number : ℕ) → step_refusal w (step_of move) ≡ Some number → IsAllowed w move }
 {}
