@@ -14,14 +14,10 @@ use Rattle.uss_law_dss.specs.Lists.{Has}
 use Rattle.uss_law_dss.specs.Service.{Service, recorded_of, ticket_of, has_ovn, relevant, lacking, in_key, lies_in, shown_to}
 use Rattle.uss_law_dss.specs.Refusals.{vertex_count, is_others, is_others_ticket, is_stale, is_stale_change, is_no_ticket_of, is_uncovered, is_cited, is_at_last_version, tests_of, first_of, refusal_of}
 use Rattle.uss_law_dss.specs.Step.{after_put, after_remove, after_ticket_put, after_ticket_remove, with_recorded, with_ticket, accepted, unless_refused, service_step}
+use Rattle.uss_law_dss.specs.Carried.{NoneHolds}
 use Rattle.uss_law_dss.specs.Effects.{Effect, lands, removes, makes_ticket, takes_ticket_out, stays}
 use Rattle.uss_law_dss.proofs.Lists.{has_filtered}
 use Rattle.uss_law_dss.proofs.Tests.{same_number, other_number, same_bytes, not_less, not_le, not_false, second_false, neither, none_is}
-
--- no test holds
-abbrev pub NoneHolds : List (Bool × DssRefusal) → Type 0
-NoneHolds [] = Unit {0}
-NoneHolds (t ∷ ts) = (t.0 ≡ false) × NoneHolds ts
 
 pub none_holds : (ts : List (Bool × DssRefusal)) → first_of ts ≡ None → NoneHolds ts
 none_holds [] h = tt
@@ -31,7 +27,7 @@ none_holds (t ∷ ts) h = go t.0 refl (none_holds ts) h
     go true e rec f = cc
     go false e rec f = (e, rec f)
 
-created : {X : Type 0} (o : Option X) (ovn : Option (List ℕ)) → (is_none ovn && is_some o) ≡ false → ovn ≡ None → o ≡ None
+pub created : {X : Type 0} (o : Option X) (ovn : Option (List ℕ)) → (is_none ovn && is_some o) ≡ false → ovn ≡ None → o ≡ None
 created o None h e = none_is o h
 created o (Some p) h e = cc
 
@@ -39,11 +35,11 @@ creating : (ovn : Option (List ℕ)) (b : Bool) → (is_none ovn && b) ≡ false
 creating None b h e = h
 creating (Some p) b h e = cc
 
-is_ovn : (o : Option (List ℕ)) (p : List ℕ) → has_ovn o p ≡ true → o ≡ Some p
+pub is_ovn : (o : Option (List ℕ)) (p : List ℕ) → has_ovn o p ≡ true → o ≡ Some p
 is_ovn None p h = cc
 is_ovn (Some q) p h = ap Some (same_bytes q p h)
 
-changed : (o : Option Recorded) (client : List ℕ) (ovn : Option (List ℕ)) → (is_some ovn && is_none o) ≡ false → is_others client o ≡ false → is_stale_change o ovn ≡ false → is_at_last_version o ≡ false → (p : List ℕ) → ovn ≡ Some p
+pub changed : (o : Option Recorded) (client : List ℕ) (ovn : Option (List ℕ)) → (is_some ovn && is_none o) ≡ false → is_others client o ≡ false → is_stale_change o ovn ≡ false → is_at_last_version o ≡ false → (p : List ℕ) → ovn ≡ Some p
     → (r : Recorded) × (o ≡ Some r) × (r.reference.manager ≡ client) × (r.reference.ovn ≡ Some p) × (r.reference.version ≢ 4294967295)
 changed o client None h y k v p e = cc
 changed None client (Some q) h y k v p e = cc
@@ -67,7 +63,7 @@ none_lacking key rs r e h = go (in_key key r.reference) refl
     go true f = refl
     go false f = absurd (no_item (lacking key rs) r e (has_filtered (λ r. not (in_key key r.reference)) rs r h (ap not f)))
 
-some_items : {X : Type 0} (xs : List X) → (length xs == 0) ≡ false → 0 < length xs
+pub some_items : {X : Type 0} (xs : List X) → (length xs == 0) ≡ false → 0 < length xs
 some_items xs h = let n = other_number (length xs) 0 h in omega arith
 
 -- a refusal changes nothing

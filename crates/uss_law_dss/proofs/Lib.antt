@@ -11,3 +11,6 @@ pub mod AfterOthers
 pub mod EachOrderly
 pub mod EachFits
 pub mod Points
+pub mod Founds
+pub mod TellsThose
+pub mod EachCarried

@@ -147,6 +147,14 @@ ascend_put_ticket t (x ∷ xs) a new = go (nat_lt t.id x.id) refl (ascend_put_ti
         let d = new x (inl refl) in
         (above_put_ticket x.id t xs (omega arith) a.0, k)
 
+pub put_ticket_there : (t : Ticket) (xs : List Ticket) → Has (put_ticket t xs) t
+put_ticket_there t [] = inl refl
+put_ticket_there t (x ∷ xs) = go (nat_lt t.id x.id) (put_ticket_there t xs)
+  where
+    go : (b : Bool) → Has (put_ticket t xs) t → Has (if b then t ∷ x ∷ xs else x ∷ put_ticket t xs) t
+    go true k = inl refl
+    go false k = inr k
+
 pub put_ticket_keeps : (t : Ticket) (xs : List Ticket) (q : Ticket) → Has xs q → Has (put_ticket t xs) q
 put_ticket_keeps t [] q h = absurd h
 put_ticket_keeps t (x ∷ xs) q h = go (nat_lt t.id x.id) (λ k. put_ticket_keeps t xs q k) h

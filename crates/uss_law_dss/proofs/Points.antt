@@ -16,7 +16,7 @@ use Rattle.uss_law_dss.proofs.Tests.{both, and_true, other_number, unequal_numbe
 any_map : {A : Type 0} (P Q : A → Type 0) → ((x : A) → P x → Q x) → (xs : List A) → Any P xs → Any Q xs
 any_map P Q f xs a = (a.0, a.1, a.2, a.3, f a.1 a.4)
 
-reach_tells : (extents : List Volume4D) (area : Volume4D) → IsTrue (reach extents area) ↔ Any (λ v. Shares v area) extents
+pub reach_tells : (extents : List Volume4D) (area : Volume4D) → IsTrue (reach extents area) ↔ Any (λ v. Shares v area) extents
 reach_tells extents area = (
   λ h. any_map (λ v. shares v area ≡ true) (λ v. Shares v area) (λ v e. (shares_tells v area).0 e) extents (Any-from_list_any (λ v. shares v area) extents h),
   λ a. list_any-from_Any (λ v. shares v area) extents (any_map (λ v. Shares v area) (λ v. shares v area ≡ true) (λ v e. (shares_tells v area).1 e) extents a),

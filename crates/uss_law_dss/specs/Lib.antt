@@ -5,6 +5,8 @@ pub mod Step
 pub mod Fits
 pub mod Orderly
 pub mod Effects
+pub mod Told
+pub mod Carried
 pub mod Transcript
 pub mod Telling
 pub mod Keyed

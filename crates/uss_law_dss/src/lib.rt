@@ -19,6 +19,8 @@ ghost use Rattle.uss_law_dss.specs.Service.{Service, empty, ovn_of, relevant};
 ghost use Rattle.uss_law_dss.specs.Step.{service_step, replies_to, state_after, found_in, is_told};
 ghost use Rattle.uss_law_dss.specs.Effects.{Effect};
 ghost use Rattle.uss_law_dss.specs.Orderly.{IsOrderly};
+ghost use Rattle.uss_law_dss.specs.Told.{IsToldOf, Tells};
+ghost use Rattle.uss_law_dss.specs.Carried.{NoneHolds, CarriedOut};
 ghost use Rattle.uss_law_dss.specs.Fits.{fits};
 ghost use Rattle.uss_law_dss.specs.Transcript.{calls, the_replies, contested, the_contested_replies};
 ghost use Rattle.uss_law_dss.specs.Telling.{telling, the_telling_replies};
@@ -72,6 +74,11 @@ pub fn sharing_is_of_points()
 /// the call's tests said.
 pub fn effects()
     ensures { (s : Service) (client : List ℕ) (ask : DssAsk) → Effect s client ask (service_step s client ask) }
+{}
+
+/// A call of which no test holds is carried out: its reply is no refusal, and the state afterwards has what the call is for.
+pub fn calls_are_carried_out()
+    ensures { (s : Service) (client : List ℕ) (ask : DssAsk) → IsOrderly s → NoneHolds (tests_of s client ask) → CarriedOut s client ask (service_step s client ask) }
 {}
 
 /// The tests of a call stand in the order of the refusals' numbers, so the refusal with the least number is given.
