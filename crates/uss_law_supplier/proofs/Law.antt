@@ -145,7 +145,7 @@ pub steps_stay_sound : StepsStaySound
 steps_stay_sound owner book values moment event d w r =
     let k = keeps (standing owner book values) (clamped moment) event (sound_of owner book values d) w (clamped_in_time moment) (each_roomy book _ r) in
     let t = supplier_step owner book values moment event in
-    record { owned = owned_then book t.entry owner d.owned; legal = legal_then book t.entry d.legal k.may.legal; fit = k.fit; heard = heard_then values.heard event t.values.heard d.heard w k.may.hears }
+    record { owned = owned_then book t.entry owner d.owned; legal = legal_then book t.entry d.legal k.may.acts.legal; fit = k.fit; heard = heard_then values.heard event t.values.heard d.heard w k.may.hears }
 
 -- after a start nothing is waited for
 pub start_fits : (owner : Owner) (book : List Entry) → IsFit owner book no_values
