@@ -107,17 +107,17 @@ crowds s moment ask service served k many sound calm =
     looks_so (IsCrowded s moment ask service) s moment ask service served (key_is_no_end ask.wish k) sound calm
     (stops_by (IsCrowded s moment ask service) s.owner.name served s2 moment (Comes.Dss (record { job = o.job; ask = its_query ask }) reply) (ticketed s moment ask service) (Says.Answer (Answers.Crowded (length (around s moment ask service)))) said refl refl)
 
-pub crowded_plans_come_out : (ask : FlightAsk) (s : Standing) (moment : ℤ) (service : Service) (served : List OperationalIntent) (xs : List Exchanged) → keeps_key ask.wish ≡ true → 1024 < length (around s moment ask service)
-    → IsSound s.owner s.book s.values → IsUndisturbed s moment ask service served → IsExchange s moment (Comes.Ask ask) xs → AreByService s.owner.name served service xs → IsOutcome s moment ask service served ask.wish (last_turn s moment (Comes.Ask ask) xs).said
-crowded_plans_come_out ask s moment service served xs k many sound calm ex by = go ask.wish refl k
+pub crowded_plans_come_out : (ask : FlightAsk) (s : Standing) (moment : ℤ) (service : Service) (served : List OperationalIntent) → keeps_key ask.wish ≡ true → 1024 < length (around s moment ask service)
+    → IsSound s.owner s.book s.values → IsUndisturbed s moment ask service served → ComesOutAs (IsOutcome s moment ask service served ask.wish) s.owner.name served s moment (Comes.Ask ask) service
+crowded_plans_come_out ask s moment service served k many sound calm = go ask.wish refl k
   where
     test : nat_lt 1024 (length (around s moment ask service)) ≡ true
     test = less_test 1024 (length (around s moment ask service)) many
 
-    go : (x : Wish) → ask.wish ≡ x → keeps_key x ≡ true → IsOutcome s moment ask service served ask.wish (last_turn s moment (Comes.Ask ask) xs).said
+    go : (x : Wish) → ask.wish ≡ x → keeps_key x ≡ true → ComesOutAs (IsOutcome s moment ask service served ask.wish) s.owner.name served s moment (Comes.Ask ask) service
     go End w h = cc
     go (Put to priority rounds proposals) w h =
-        subst (λ (x : Wish). IsOutcome s moment ask service served x (last_turn s moment (Comes.Ask ask) xs).said) (sym w)
-        (subst (λ (b : Bool). IsPutOutcome (is_new s ask) b (length (around s moment ask service)) (intents_around s moment ask service served) (choice_of s (opening_for s (clamped moment) ask) (intents_around s moment ask service served)) (last_turn s moment (Comes.Ask ask) xs).said) (sym h)
-        (subst (λ (b : Bool). IsKeyedOutcome (is_new s ask) b (length (around s moment ask service)) (intents_around s moment ask service served) (choice_of s (opening_for s (clamped moment) ask) (intents_around s moment ask service served)) (last_turn s moment (Comes.Ask ask) xs).said) (sym test)
-        (crowds s moment ask service served k test sound calm xs ex by)))
+        subst (λ (x : Wish). ComesOutAs (IsOutcome s moment ask service served x) s.owner.name served s moment (Comes.Ask ask) service) (sym w)
+        (subst (λ (b : Bool). ComesOutAs (IsPutOutcome (is_new s ask) b (length (around s moment ask service)) (intents_around s moment ask service served) (choice_of s (opening_for s (clamped moment) ask) (intents_around s moment ask service served))) s.owner.name served s moment (Comes.Ask ask) service) (sym h)
+        (subst (λ (b : Bool). ComesOutAs (IsKeyedOutcome (is_new s ask) b (length (around s moment ask service)) (intents_around s moment ask service served) (choice_of s (opening_for s (clamped moment) ask) (intents_around s moment ask service served))) s.owner.name served s moment (Comes.Ask ask) service) (sym test)
+        (crowds s moment ask service served k test sound calm)))

@@ -62,7 +62,7 @@ recorded_around s moment ask service r h = has_filter _ service.references r (ha
 one_around : (s : Standing) (moment : ℤ) (ask : FlightAsk) (service : Service) (served : List OperationalIntent) (x y : Recorded) → IsUndisturbed s moment ask service served → Has (around s moment ask service) x → Has (around s moment ask service) y
     → x.reference.flight ≡ y.reference.flight → x ≡ y
 one_around s moment ask service served x y calm h k e =
-    one_has Dss.flight_of service.references x y calm.orderly.references_ascend (recorded_around s moment ask service x h) (recorded_around s moment ask service y k) e
+    one_has Dss.flight_recorded service.references x y calm.orderly.references_ascend (recorded_around s moment ask service x h) (recorded_around s moment ask service y k) e
 
 -- how far it is
 

@@ -48,9 +48,9 @@ use Rattle.uss_law_supplier.proofs.Waits.{awaiting_own}
 use Rattle.uss_law_supplier.proofs.Onward.{IsOpenJob}
 use Rattle.uss_law_supplier.proofs.Asking.{first_kind, parts_none}
 use Rattle.uss_law_asking.specs.Exchange.{turn_of, stands_then, last_turn}
-use Rattle.uss_law_asking.specs.Complete.{IsUndisturbed, IsOutcome, ComesOut}
+use Rattle.uss_law_asking.specs.Complete.{IsUndisturbed, IsOutcome}
 use Rattle.uss_law_asking.proofs.Asked.{new_unfinished}
-use Rattle.uss_law_asking.proofs.Walk.{ComesOutAs, goes_on_by, stops_by, acts_so, opens_so}
+use Rattle.uss_law_asking.proofs.Walk.{ComesOutAs, Settles, goes_on_by, stops_by, acts_so, opens_so}
 use Rattle.uss_law_asking.proofs.Recorded.{IsRecorded, held_recorded}
 
 -- what a closed job keeps
@@ -152,8 +152,8 @@ ends_so s moment ask service served ovn w sound calm held =
     (subst (λ x. ComesOutAs (IsEnd s moment ask) s.owner.name served (stands_then s t) moment (Comes.Dss call x.0) x.1) (sym step)
     (removed (stands_then s t) moment ask o _ served flight ovn held.it _ w u (awaiting_own o.job (dss_call o.job (Asks.Remove flight ovn)) s.values) fit))
 
-pub ends_come_out : (ask : FlightAsk) → ask.wish ≡ End → ComesOut ask
-ends_come_out ask w s moment service served xs sound calm ex by =
+pub ends_come_out : (ask : FlightAsk) → ask.wish ≡ End → Settles ask
+ends_come_out ask w s moment service served sound calm =
     let h = held_there s (clamped moment) ask (ap begins_flight w) calm.accepted in
     let held = held_recorded s moment ask service served h.0 sound calm h.1 in
-    subst (λ (x : Wish). IsOutcome s moment ask service served x (last_turn s moment (Comes.Ask ask) xs).said) (sym w) (ends_so s moment ask service served h.0.ovn w sound calm held xs ex by)
+    subst (λ (x : Wish). ComesOutAs (IsOutcome s moment ask service served x) s.owner.name served s moment (Comes.Ask ask) service) (sym w) (ends_so s moment ask service served h.0.ovn w sound calm held)

@@ -26,8 +26,8 @@ use Rattle.uss_law_supplier.specs.Laws.{IsSound}
 use Rattle.uss_law_supplier.proofs.Waits.{awaiting_own}
 use Rattle.uss_law_supplier.proofs.Asking.{are_plans}
 use Rattle.uss_law_asking.specs.Exchange.{turn_of, last_turn}
-use Rattle.uss_law_asking.specs.Complete.{IsUndisturbed, is_new, IsRecordedBy, IsPutOutcome, IsOutcome, around, intents_around, ComesOut}
-use Rattle.uss_law_asking.proofs.Walk.{ComesOutAs, acts_so}
+use Rattle.uss_law_asking.specs.Complete.{IsUndisturbed, is_new, IsRecordedBy, IsPutOutcome, IsOutcome, around, intents_around}
+use Rattle.uss_law_asking.proofs.Walk.{ComesOutAs, Settles, acts_so}
 use Rattle.uss_law_asking.proofs.Tries.{tries}
 use Rattle.uss_law_asking.proofs.Opens.{its_query, asked_values, looks_from, ticketed, found_there, ticketed_orderly, looking_unfinished, looks_so, first_at, is_acceptable, base_new}
 use Rattle.uss_law_asking.proofs.Ends.{ends_come_out}
@@ -61,11 +61,12 @@ unkeyed s moment ask service served to priority rounds (p ∷ ps) w k sound calm
     (attempts_so s moment ask service served (ap keeps_key w ∙ k) sound calm) (first_at s moment ask 0 to priority rounds (p ∷ ps) p sound w refl) (ticketed_orderly s moment ask service served calm)
     (is_acceptable s moment ask service served 0 [] to priority rounds (p ∷ ps) p sound calm w refl (omega arith) (rw k refl))))
 
-pub requests_without_key_come_out : (ask : FlightAsk) → keeps_key ask.wish ≡ false → ComesOut ask
+pub requests_without_key_come_out : (ask : FlightAsk) → keeps_key ask.wish ≡ false → Settles ask
 requests_without_key_come_out ask k = go ask.wish refl k
   where
-    go : (x : Wish) → ask.wish ≡ x → keeps_key x ≡ false → ComesOut ask
+    go : (x : Wish) → ask.wish ≡ x → keeps_key x ≡ false → Settles ask
     go End w k = ends_come_out ask w
-    go (Put to priority rounds proposals) w k = λ s moment service served xs sound calm ex by.
-        subst (λ (x : Wish). IsOutcome s moment ask service served x (last_turn s moment (Comes.Ask ask) xs).said) (sym w)
-        (subst (λ (b : Bool). IsPutOutcome (is_new s ask) b (length (around s moment ask service)) (intents_around s moment ask service served) (choice_of s (opening_for s (clamped moment) ask) (intents_around s moment ask service served)) (last_turn s moment (Comes.Ask ask) xs).said) (sym k) (unkeyed s moment ask service served to priority rounds proposals w k sound calm xs ex by))
+    go (Put to priority rounds proposals) w k = λ s moment service served sound calm.
+        subst (λ (x : Wish). ComesOutAs (IsOutcome s moment ask service served x) s.owner.name served s moment (Comes.Ask ask) service) (sym w)
+        (subst (λ (b : Bool). ComesOutAs (IsPutOutcome (is_new s ask) b (length (around s moment ask service)) (intents_around s moment ask service served) (choice_of s (opening_for s (clamped moment) ask) (intents_around s moment ask service served))) s.owner.name served s moment (Comes.Ask ask) service) (sym k)
+        (unkeyed s moment ask service served to priority rounds proposals w k sound calm))

@@ -32,12 +32,13 @@ use Rattle.uss_law_supplier.specs.Turns.{Standing, Turn, dss_call, entered, with
 use Rattle.uss_law_supplier.specs.Jobs.{is_end, view_of, heard_of_dss, round_by_dss, with_values, asking, carry_out, open_by_dss, heard_of_peer, carry_out_peer, open_by_peer}
 use Rattle.uss_law_supplier.specs.Replies.{of_job_by_dss, of_job_by_peer, replied_to, replied_to_peer}
 use Rattle.uss_law_supplier.specs.Asks.{plan_refusal, new_refusal, opening_entry, opening_for, new_by, asked_anew, asked_after, asked_with}
+use Rattle.uss_law_supplier.specs.Laws.{IsSound}
 use Rattle.uss_law_supplier.proofs.Known.{Known}
 use Rattle.uss_law_supplier.proofs.Onward.{IsOpenJob}
 use Rattle.uss_law_supplier.proofs.Asking.{first_kind}
 use Rattle.uss_law_asking.specs.Exchange.{Exchanged, turn_of, stands_then, IsExchange, last_turn}
 use Rattle.uss_law_asking.specs.Exchange.Exchanged.{OfDss, OfPeer}
-use Rattle.uss_law_asking.specs.Complete.{served_of, served_reply, AreByService}
+use Rattle.uss_law_asking.specs.Complete.{IsUndisturbed, IsOutcome, served_of, served_reply, AreByService}
 use Rattle.uss_law_asking.proofs.Bounded.{same_details, round_waits, same_dss}
 use Rattle.uss_law_asking.proofs.Asked.{new_duty}
 use Rattle.uss_event.specs.declared.calls.PeerCall.{PeerCall}
@@ -48,27 +49,39 @@ use Rattle.uss_law_duty.specs.Heard.News.{Heard}
 use Rattle.uss_law_supplier.specs.declared.duties.Awaited.TheVariants as Waits
 use Rattle.uss_law_supplier.specs.Airspace.{is_left}
 
--- each whole exchange from here on comes out so
+-- there is a whole exchange from here on, and each comes out so
+abbrev pub Ends : List ℕ → List OperationalIntent → Standing → ℤ → Event → Service → Type 0
+Ends client served s moment event service = (xs : List Exchanged) × IsExchange s moment event xs × AreByService client served service xs
+
+abbrev pub EachComesOut : (Said → Type 0) → List ℕ → List OperationalIntent → Standing → ℤ → Event → Service → Type 0
+EachComesOut P client served s moment event service = (xs : List Exchanged) → IsExchange s moment event xs → AreByService client served service xs → P (last_turn s moment event xs).said
+
 abbrev pub ComesOutAs : (Said → Type 0) → List ℕ → List OperationalIntent → Standing → ℤ → Event → Service → Type 0
-ComesOutAs P client served s moment event service = (xs : List Exchanged) → IsExchange s moment event xs → AreByService client served service xs → P (last_turn s moment event xs).said
+ComesOutAs P client served s moment event service = Ends client served s moment event service × EachComesOut P client served s moment event service
+
+-- so does each new request that nobody disturbs
+abbrev pub Settles : FlightAsk → Type 0
+Settles ask =
+    (s : Standing) (moment : ℤ) (service : Service) (served : List OperationalIntent) → IsSound s.owner s.book s.values → IsUndisturbed s moment ask service served
+    → ComesOutAs (IsOutcome s moment ask service served ask.wish) s.owner.name served s moment (Comes.Ask ask) service
 
 -- a step that says something is the last
 pub stops : (P : Said → Type 0) (client : List ℕ) (served : List OperationalIntent) (s : Standing) (moment : ℤ) (event : Event) (service : Service) → says_something (turn_of s moment event).said ≡ true → P (turn_of s moment event).said
     → ComesOutAs P client served s moment event service
-stops P client served s moment event service says p [] ex by = p
-stops P client served s moment event service says p (x ∷ xs) ex by = let q : says_something Says.Nothing ≡ true = ap says_something (sym ex.0.0) ∙ says in cc (q)
+stops P client served s moment event service says p = (([], (tt, says), tt), each)
+  where
+    each : EachComesOut P client served s moment event service
+    each [] ex by = p
+    each (x ∷ xs) ex by = let q : says_something Says.Nothing ≡ true = ap says_something (sym ex.0.0) ∙ says in cc (q)
 
 -- a step that makes a call goes on with the reply that the discovery service gives
 pub goes_on : (P : Said → Type 0) (client : List ℕ) (served : List OperationalIntent) (s : Standing) (moment : ℤ) (event : Event) (service : Service) (call : DssCall) → (turn_of s moment event).said ≡ Says.Nothing
     → (turn_of s moment event).sends ≡ Goes.Dss call ∷ []
     → ComesOutAs P client served (stands_then s (turn_of s moment event)) moment (Comes.Dss call (service_step service client call.ask).0) (service_step service client call.ask).1 → ComesOutAs P client served s moment event service
-goes_on P client served s moment event service call quiet sends next [] ex by = let q : says_something Says.Nothing ≡ true = ap says_something (sym quiet) ∙ ex.1 in cc (q)
-goes_on P client served s moment event service call quiet sends next (OfPeer c r ∷ xs) ex by = let q : Goes.Peer c ∷ [] ≡ Goes.Dss call ∷ [] = sym ex.0.1 ∙ sends in cc (q)
-goes_on P client served s moment event service call quiet sends next (OfDss c r ∷ xs) ex by =
-    let same : call ≡ c = call_is (Goes.Dss call ∷ []) (Goes.Dss c ∷ []) (sym sends ∙ ex.0.1) in
-    let step : ComesOutAs P client served t moment (Comes.Dss c (service_step service client c.ask).0) (service_step service client c.ask).1 =
-    subst (λ (y : DssCall). ComesOutAs P client served t moment (Comes.Dss y (service_step service client y.ask).0) (service_step service client y.ask).1) same next in
-    subst (λ (y : DssReply). IsExchange t moment (Comes.Dss c y) xs → P (last_turn t moment (Comes.Dss c y) xs).said) (sym by.0) (λ e. step xs e by.1) (ex.0.2, ex.1)
+goes_on P client served s moment event service call quiet sends next = (
+  (OfDss call (service_step service client call.ask).0 ∷ next.0.0, ((quiet, sends, next.0.1.0), next.0.1.1), (refl, next.0.2)),
+  each,
+)
   where
     t : Standing
     t = stands_then s (turn_of s moment event)
@@ -79,6 +92,15 @@ goes_on P client served s moment event service call quiet sends next (OfDss c r 
 
     call_is : (a b : List Outgoing) → a ≡ b → call_or a ≡ call_or b
     call_is a b e = ap call_or e
+
+    each : EachComesOut P client served s moment event service
+    each [] ex by = let q : says_something Says.Nothing ≡ true = ap says_something (sym quiet) ∙ ex.1 in cc (q)
+    each (OfPeer c r ∷ xs) ex by = let q : Goes.Peer c ∷ [] ≡ Goes.Dss call ∷ [] = sym ex.0.1 ∙ sends in cc (q)
+    each (OfDss c r ∷ xs) ex by =
+        let same : call ≡ c = call_is (Goes.Dss call ∷ []) (Goes.Dss c ∷ []) (sym sends ∙ ex.0.1) in
+        let step : EachComesOut P client served t moment (Comes.Dss c (service_step service client c.ask).0) (service_step service client c.ask).1 =
+        subst (λ (y : DssCall). EachComesOut P client served t moment (Comes.Dss y (service_step service client y.ask).0) (service_step service client y.ask).1) same next.1 in
+        subst (λ (y : DssReply). IsExchange t moment (Comes.Dss c y) xs → P (last_turn t moment (Comes.Dss c y) xs).said) (sym by.0) (λ e. step xs e by.1) (ex.0.2, ex.1)
 
 -- the job acts on the reply that it waits for
 pub acts_so : (s : Standing) (moment : ℤ) (o : Opening) (ask : DssAsk) (reply : DssReply) (kind : Awaited) → IsOpenJob s.book o → awaited_of o.job s.values ≡ Some (dss_call o.job ask) → kind_of_ask ask ≡ Some kind → fits ask reply ≡ true
@@ -130,19 +152,10 @@ stops_by P client served s moment event service said e says p =
 pub goes_on_peer : (P : Said → Type 0) (client : List ℕ) (served : List OperationalIntent) (s : Standing) (moment : ℤ) (event : Event) (service : Service) (job flight : ℕ) (manager base : List ℕ) (t : Turn) → turn_of s moment event ≡ t
     → t.said ≡ Says.Nothing → t.sends ≡ Goes.Peer (Calls.Details job flight manager base) ∷ []
     → ComesOutAs P client served (stands_then s t) moment (Comes.Peer (Calls.Details job flight manager base) (served_reply (served_of flight manager served))) service → ComesOutAs P client served s moment event service
-goes_on_peer P client served s moment event service job flight manager base t is quiet sends next [] ex by =
-    let q : says_something Says.Nothing ≡ true = ap says_something (sym quiet ∙ ap (λ (x : Turn). x.said) (sym is)) ∙ ex.1 in
-    cc (q)
-goes_on_peer P client served s moment event service job flight manager base t is quiet sends next (OfDss c r ∷ xs) ex by =
-    let q : Goes.Dss c ∷ [] ≡ Goes.Peer (Calls.Details job flight manager base) ∷ [] = sym ex.0.1 ∙ ap (λ (x : Turn). x.sends) is ∙ sends in
-    cc (q)
-goes_on_peer P client served s moment event service job flight manager base t is quiet sends next (OfPeer c r ∷ xs) ex by =
-    let same : call ≡ c = call_is (Goes.Peer call ∷ []) (Goes.Peer c ∷ []) (sym (ap (λ (x : Turn). x.sends) is ∙ sends) ∙ ex.0.1) in
-    let then : ComesOutAs P client served (stands_then s (turn_of s moment event)) moment (Comes.Peer call (served_reply (served_of flight manager served))) service =
-    subst (λ (x : Turn). ComesOutAs P client served (stands_then s x) moment (Comes.Peer call (served_reply (served_of flight manager served))) service) (sym is) next in
-    subst (λ (y : PeerCall). IsExchange (stands_then s (turn_of s moment event)) moment (Comes.Peer y r) xs → AreByService client served service (OfPeer y r ∷ xs) → P (last_turn (stands_then s (turn_of s moment event)) moment (Comes.Peer y r) xs).said) same
-    (λ e b. subst (λ (z : PeerReply). IsExchange (stands_then s (turn_of s moment event)) moment (Comes.Peer call z) xs → P (last_turn (stands_then s (turn_of s moment event)) moment (Comes.Peer call z) xs).said) (sym b.0) (λ k. then xs k b.1) e)
-    (ex.0.2, ex.1) by
+goes_on_peer P client served s moment event service job flight manager base t is quiet sends next = (
+  (OfPeer call (served_reply (served_of flight manager served)) ∷ then.0.0, ((ap (λ (x : Turn). x.said) is ∙ quiet, ap (λ (x : Turn). x.sends) is ∙ sends, then.0.1.0), then.0.1.1), (refl, then.0.2)),
+  each,
+)
   where
     call : PeerCall
     call = Calls.Details job flight manager base
@@ -153,6 +166,22 @@ goes_on_peer P client served s moment event service job flight manager base t is
 
     call_is : (a b : List Outgoing) → a ≡ b → call_or a ≡ call_or b
     call_is a b e = ap call_or e
+
+    then : ComesOutAs P client served (stands_then s (turn_of s moment event)) moment (Comes.Peer call (served_reply (served_of flight manager served))) service
+    then = subst (λ (x : Turn). ComesOutAs P client served (stands_then s x) moment (Comes.Peer call (served_reply (served_of flight manager served))) service) (sym is) next
+
+    each : EachComesOut P client served s moment event service
+    each [] ex by =
+        let q : says_something Says.Nothing ≡ true = ap says_something (sym quiet ∙ ap (λ (x : Turn). x.said) (sym is)) ∙ ex.1 in
+        cc (q)
+    each (OfDss c r ∷ xs) ex by =
+        let q : Goes.Dss c ∷ [] ≡ Goes.Peer (Calls.Details job flight manager base) ∷ [] = sym ex.0.1 ∙ ap (λ (x : Turn). x.sends) is ∙ sends in
+        cc (q)
+    each (OfPeer c r ∷ xs) ex by =
+        let same : call ≡ c = call_is (Goes.Peer call ∷ []) (Goes.Peer c ∷ []) (sym (ap (λ (x : Turn). x.sends) is ∙ sends) ∙ ex.0.1) in
+        subst (λ (y : PeerCall). IsExchange (stands_then s (turn_of s moment event)) moment (Comes.Peer y r) xs → AreByService client served service (OfPeer y r ∷ xs) → P (last_turn (stands_then s (turn_of s moment event)) moment (Comes.Peer y r) xs).said) same
+        (λ e b. subst (λ (z : PeerReply). IsExchange (stands_then s (turn_of s moment event)) moment (Comes.Peer call z) xs → P (last_turn (stands_then s (turn_of s moment event)) moment (Comes.Peer call z) xs).said) (sym b.0) (λ k. then.1 xs k b.1) e)
+        (ex.0.2, ex.1) by
 
 -- the job hears the pair that it waits for, and goes on
 pub hears_so : (s : Standing) (moment : ℤ) (o : Opening) (flight : ℕ) (manager base : List ℕ) (p : OperationalIntent) → IsOpenJob s.book o → awaited_of o.job s.values ≡ Some (Goes.Peer (Calls.Details o.job flight manager base))

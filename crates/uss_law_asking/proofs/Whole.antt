@@ -43,11 +43,11 @@ use Rattle.uss_law_supplier.proofs.Waits.{round_own, awaiting_own, awaiting_roun
 use Rattle.uss_law_supplier.proofs.Fits.{heard_in_round}
 use Rattle.uss_law_supplier.proofs.Acting.{next_step}
 use Rattle.uss_law_asking.specs.Exchange.{turn_of, last_turn}
-use Rattle.uss_law_asking.specs.Complete.{IsUndisturbed, is_new, IsOfChoice, IsKeyedOutcome, IsPutOutcome, IsOutcome, served_of, served_reply, around, intents_around, RequestsComeOut}
+use Rattle.uss_law_asking.specs.Complete.{IsUndisturbed, is_new, IsOfChoice, IsKeyedOutcome, IsPutOutcome, IsOutcome, served_of, served_reply, around, intents_around, RequestsAreAnswered, RequestsComeOut}
 use Rattle.uss_law_asking.proofs.Budget.{left}
 use Rattle.uss_law_asking.proofs.Acts.{one_fewer}
 use Rattle.uss_law_asking.proofs.Bounded.{left_found}
-use Rattle.uss_law_asking.proofs.Walk.{ComesOutAs, goes_on_peer, hears_so}
+use Rattle.uss_law_asking.proofs.Walk.{ComesOutAs, Settles, goes_on_peer, hears_so}
 use Rattle.uss_law_asking.proofs.Opens.{its_ticket, its_query, asked_values, looks_from, ticketed, found_there, looking_unfinished, looks_so}
 use Rattle.uss_law_asking.proofs.Unkeyed.{requests_without_key_come_out}
 use Rattle.uss_law_asking.proofs.Crowds.{shown_flight, found_around, finds_so, crowded_plans_come_out, key_is_no_end}
@@ -295,30 +295,34 @@ keyed s moment ask service served k few c =
     looks_so (IsOfChoice (is_new s ask) (intents_around s moment ask service served) (choice_of s o (intents_around s moment ask service served))) s moment ask service served (key_is_no_end ask.wish k) c.sound c.calm
     (hears_all (left (round_of o.job v)) s moment ask service served s2.values v (Comes.Dss (record { job = o.job; ask = its_query ask }) reply) c (omega arith) (first_hearing s moment ask service served c) turn)
 
-pub requests_come_out : RequestsComeOut
-requests_come_out ask s moment service served xs sound calm ex by = at_key (keeps_key ask.wish) refl
+requests_settle : (ask : FlightAsk) → Settles ask
+requests_settle ask s moment service served sound calm = at_key (keeps_key ask.wish) refl
   where
     many : Bool
     many = nat_lt 1024 (length (around s moment ask service))
 
-    said : Said
-    said = (last_turn s moment (Comes.Ask ask) xs).said
-
     pairs : List OperationalIntent
     pairs = intents_around s moment ask service served
 
-    at_wish : (x : Wish) → ask.wish ≡ x → keeps_key x ≡ true → many ≡ false → IsOutcome s moment ask service served ask.wish said
+    at_wish : (x : Wish) → ask.wish ≡ x → keeps_key x ≡ true → many ≡ false → ComesOutAs (IsOutcome s moment ask service served ask.wish) s.owner.name served s moment (Comes.Ask ask) service
     at_wish End w k few = cc
     at_wish (Put to priority rounds proposals) w k few =
         let c : IsPlan s moment ask service served = record { to = to; priority = priority; rounds = rounds; proposals = proposals; wish = w; sound = sound; calm = calm; covers = area_covers ask service; few = not_less 1024 (length (around s moment ask service)) few } in
-        subst (λ (x : Wish). IsOutcome s moment ask service served x said) (sym w)
-        (subst (λ (b : Bool). IsPutOutcome (is_new s ask) b (length (around s moment ask service)) pairs (choice_of s (opening_for s (clamped moment) ask) pairs) said) (sym k)
-        (subst (λ (b : Bool). IsKeyedOutcome (is_new s ask) b (length (around s moment ask service)) pairs (choice_of s (opening_for s (clamped moment) ask) pairs) said) (sym few) (keyed s moment ask service served (ap keeps_key w ∙ k) few c xs ex by)))
+        subst (λ (x : Wish). ComesOutAs (IsOutcome s moment ask service served x) s.owner.name served s moment (Comes.Ask ask) service) (sym w)
+        (subst (λ (b : Bool). ComesOutAs (IsPutOutcome (is_new s ask) b (length (around s moment ask service)) pairs (choice_of s (opening_for s (clamped moment) ask) pairs)) s.owner.name served s moment (Comes.Ask ask) service) (sym k)
+        (subst (λ (b : Bool). ComesOutAs (IsKeyedOutcome (is_new s ask) b (length (around s moment ask service)) pairs (choice_of s (opening_for s (clamped moment) ask) pairs)) s.owner.name served s moment (Comes.Ask ask) service) (sym few)
+        (keyed s moment ask service served (ap keeps_key w ∙ k) few c)))
 
-    at_many : (b : Bool) → many ≡ b → keeps_key ask.wish ≡ true → IsOutcome s moment ask service served ask.wish said
-    at_many true e k = crowded_plans_come_out ask s moment service served xs k (less_is 1024 (length (around s moment ask service)) e) sound calm ex by
+    at_many : (b : Bool) → many ≡ b → keeps_key ask.wish ≡ true → ComesOutAs (IsOutcome s moment ask service served ask.wish) s.owner.name served s moment (Comes.Ask ask) service
+    at_many true e k = crowded_plans_come_out ask s moment service served k (less_is 1024 (length (around s moment ask service)) e) sound calm
     at_many false e k = at_wish ask.wish refl k e
 
-    at_key : (b : Bool) → keeps_key ask.wish ≡ b → IsOutcome s moment ask service served ask.wish said
+    at_key : (b : Bool) → keeps_key ask.wish ≡ b → ComesOutAs (IsOutcome s moment ask service served ask.wish) s.owner.name served s moment (Comes.Ask ask) service
     at_key true e = at_many many refl e
-    at_key false e = requests_without_key_come_out ask e s moment service served xs sound calm ex by
+    at_key false e = requests_without_key_come_out ask e s moment service served sound calm
+
+pub requests_come_out : RequestsComeOut
+requests_come_out ask s moment service served xs sound calm = (requests_settle ask s moment service served sound calm).1 xs
+
+pub requests_are_answered : RequestsAreAnswered
+requests_are_answered ask s moment service served sound calm = (requests_settle ask s moment service served sound calm).0

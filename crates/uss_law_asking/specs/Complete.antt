@@ -138,12 +138,21 @@ IsOutcome s moment ask service served (Put to priority rounds proposals) said =
     (choice_of s (opening_for s (clamped moment) ask) (intents_around s moment ask service served)) said
 IsOutcome s moment ask service served End said = said ≡ Says.Answer (Answers.Ended (flight_of s.owner (opening_for s (clamped moment) ask)))
 
--- a whole exchange from the request on comes to that
+-- there is a whole exchange from the request on
+abbrev pub IsAnswered : FlightAsk → Type 0
+IsAnswered ask =
+    (s : Standing) (moment : ℤ) (service : Service) (served : List OperationalIntent) → IsSound s.owner s.book s.values → IsUndisturbed s moment ask service served
+    → (xs : List Exchanged) × IsExchange s moment (Comes.Ask ask) xs × AreByService s.owner.name served service xs
+
+-- and each whole exchange from the request on comes to that
 abbrev pub ComesOut : FlightAsk → Type 0
 ComesOut ask =
     (s : Standing) (moment : ℤ) (service : Service) (served : List OperationalIntent) (xs : List Exchanged) → IsSound s.owner s.book s.values → IsUndisturbed s moment ask service served
     → IsExchange s moment (Comes.Ask ask) xs → AreByService s.owner.name served service xs → IsOutcome s moment ask service served ask.wish (last_turn s moment (Comes.Ask ask) xs).said
 
 -- every request does
+abbrev pub RequestsAreAnswered : Type 0
+RequestsAreAnswered = (ask : FlightAsk) → IsAnswered ask
+
 abbrev pub RequestsComeOut : Type 0
 RequestsComeOut = (ask : FlightAsk) → ComesOut ask
