@@ -1,7 +1,7 @@
 -- Which priorities a table of rules lists. That conflict of equal priorities is allowed or forbidden by priority is after ASTM
 -- F3548-21; the table and its limits are this project's own.
-use Rattle.std.specs.Prelude.{ℕ, Bool, true, ◌&&◌, ◌==◌, nat_lt, nat_le, List, [], ◌∷◌, Option, Some, None, IsTrue, if◌then◌else◌}
-use Rattle.std.specs.List.{list_any, list_all}
+use Rattle.std.specs.Prelude.{ℕ, Bool, true, ◌&&◌, nat_lt, nat_le, List, [], ◌∷◌, Option, Some, None, IsTrue, if◌then◌else◌}
+use Rattle.std.specs.List.{list_all}
 
 -- the first is less than the list's first
 abbrev pub is_below : ℕ → List ℕ → Bool
