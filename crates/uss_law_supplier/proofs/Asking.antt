@@ -1,5 +1,5 @@
 -- That a supplier may do what a request comes to.
-use Rattle.std.proofs.Common.{ℕ, ℤ, ◌≤◌, ◌<◌, ◌+◌, ◌==◌, ◌≢◌, Bool, true, false, cond, not, ◌&&◌, ◌||◌, nat_lt, nat_le, List, [], ◌∷◌, ◌++◌, ◌≡◌, ◌⊎◌, inl, inr, length, filter, refl, ap, sym, subst, ◌∙◌, arith, Option, Some, None, is_some, is_none, IfSome}
+use Rattle.std.proofs.Common.{ℕ, ℤ, ◌≤◌, ◌<◌, ◌+◌, ◌==◌, ◌≢◌, Bool, true, false, cond, not, ◌&&◌, ◌||◌, nat_lt, nat_le, List, [], ◌∷◌, ◌++◌, ◌≡◌, ◌⊎◌, inl, inr, length, filter, refl, ap, sym, subst, ◌∙◌, arith, Option, Some, None, is_some, is_none, IfSome, map}
 use Rattle.std.specs.Prelude.{IsTrue}
 use Rattle.std.proofs.lemmas.Bool.Decides.{nat_tests}
 use Rattle.std.specs.List.{AllByRecursion}
@@ -152,10 +152,9 @@ not_for_memory state volumes off_nominal priority e = no_memory _ _ _ _ _ e
 each_plan : (to : State) (priority : ℕ) (ps : List Proposal) → proposals_refusal to priority ps ≡ None → AllByRecursion (λ (p : Proposal). IsTrue (is_plan to p.volumes p.off_nominal priority)) ps
 each_plan to priority [] e = tt
 each_plan to priority (p ∷ ps) e =
-    let a = parts_none (proposal_refusal to priority p) (proposals_refusal to priority ps ∷ []) e in
-    let b = parts_none (proposals_refusal to priority ps) [] a.1 in
+    let a = parts_none (proposal_refusal to priority p) (map (proposal_refusal to priority) ps) e in
     let n = never_memory (refusal_of to p.volumes p.off_nominal priority) a.0 (not_for_memory to p.volumes p.off_nominal priority) in
-    (sym (plan_unless_refused to p.volumes p.off_nominal priority) ∙ n, each_plan to priority ps b.0)
+    (sym (plan_unless_refused to p.volumes p.off_nominal priority) ∙ n, each_plan to priority ps a.1)
 
 le_is : (a b : ℕ) → nat_le a b ≡ true → a ≤ b
 le_is a b h = grind (arith, nat_tests)

@@ -34,7 +34,7 @@ use Rattle.uss_law_duty.specs.Sends.{ticket_remove}
 use Rattle.uss_law_duty.specs.Entered.{IsTicketRemoved}
 use Rattle.uss_law_supplier.specs.Values.{awaited_of}
 use Rattle.uss_law_supplier.specs.Turns.{Standing, entering}
-use Rattle.uss_law_supplier.specs.Chores.{is_to_retire}
+use Rattle.uss_law_book.specs.Readings.{is_ticket_due}
 use Rattle.uss_law_supplier.specs.Replies.{is_retired, takes_out, retires, is_told_now, saying_nothing, closed_by_dss, closed_by_peer}
 use Rattle.uss_law_supplier.specs.Fitting.{IsAwaited, IsFit}
 use Rattle.uss_law_supplier.proofs.Others.{is_of_job}
@@ -100,7 +100,7 @@ good_closed_by_dss s heard moment o call reply d named c false e room = good_aga
 good_closed_by_dss s heard moment o call reply d named c true e room =
     let p1 = both (same_ask call.ask (ticket_remove s.owner o.job)) _ e in
     let p2 = both (fits call.ask reply) _ p1.1 in
-    let p3 = both (takes_out reply) (is_to_retire o.job s.book) p2.1 in
+    let p3 = both (takes_out reply) (is_ticket_due o.job s.book) p2.1 in
     let q1 = both (keeps_ticket o.job s.book) (not (is_ticket_needed o.job s.book)) p3.1 in
     let q2 = both (is_closed o.job s.book) _ q1.0 in
     let q3 = both (is_ticket_open o.job s.book) (not (is_ticket_gone o.job s.book)) q2.1 in
@@ -142,8 +142,7 @@ pub good_closed_by_peer : (s : Standing) (heard : List News) (moment : ℤ) (o :
 unfolding is_told_now
 good_closed_by_peer s heard moment o call reply d named c false e room = good_again s heard moment (Comes.Peer call reply) o d c named
 good_closed_by_peer s heard moment o (Calls.Notify job place base note) Peers.Noted d named c true e room =
-    let p = both (is_closed o.job s.book) (is_one_of place (untold o.job s.book)) e in
-    let u = untold_is o.job place s.book p.1 in
+    let u = untold_is o.job place s.book e in
     let j = (opening_has s.book job o named).1 in
     let due : IsDue s.book (Enters.Sent o.job place) = record { closed = c; owed = u.0; new = u.1 } in
     let few = few_owed s o.job d in

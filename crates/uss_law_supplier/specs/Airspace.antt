@@ -1,4 +1,5 @@
--- What a job learns of the airspace, and how it chooses among its alternatives. That a plan is held against the intents that share its
+-- What a job learns of the airspace, and how it chooses among its alternatives: it asks what is recorded in its ticket's area, asks other
+-- suppliers for the details that it hasn't heard, and chooses against those pairs. That a plan is held against the intents that share its
 -- area, and that the key has their OVNs, is after ASTM F3548-21 (strategic conflict detection); the rest is this project's own.
 use Rattle.std.specs.Prelude.{ℕ, Bool, false, not, ◌&&◌, ◌==◌, List, filter_map, find, Option, Some, None, option_and_then, is_some, if◌then◌else◌}
 use Rattle.uss_intent.specs.Same.{same_text}
@@ -26,7 +27,7 @@ flight_found owner id book = find (λ o. flight_of owner o == id) (openings book
 unfoldable pub held_as : Owner → ℕ → List Entry → Option OperationalIntent
 held_as owner id book = option_and_then (λ (o : Opening). held o.ask.flight book) (flight_found owner id book)
 
--- the owner manages the reference
+-- the owner manages the reference, whatever its identifier says
 abbrev pub is_own : Owner → Reference → Bool
 is_own owner r = same_text r.manager owner.name
 
@@ -46,7 +47,8 @@ next_unheard owner heard round = find (is_unheard owner heard round) round.found
 abbrev pub is_left : Owner → List News → Round → Bool
 is_left owner heard round = is_some (next_unheard owner heard round)
 
--- the pair against which a reference is held: what is held of an own flight, and the kept pair of another, unless nothing is held of it
+-- the pair that a plan is held against for a reference: what is held of an own flight; of another, the kept pair, unless its manager holds
+-- nothing of it
 unfoldable pub pair_of : Standing → Round → Reference → Option OperationalIntent
 pair_of s round r =
     if is_own s.owner r then held_as s.owner r.flight s.book
@@ -64,7 +66,7 @@ ovn_of p = p.reference.ovn
 unfoldable pub key_of : List OperationalIntent → List (List ℕ)
 key_of pairs = filter_map ovn_of pairs
 
--- the choice of a job, held against these pairs
+-- the choice of a job, held against these pairs; what is held of its own flight is what it changes
 abbrev pub choice_by : Standing → Opening → List OperationalIntent → Wish → Choice
 choice_by s o pairs (Put to priority rounds proposals) = choice (wanted s.owner.table (flight_of s.owner o) to priority (held o.ask.flight s.book)) proposals pairs
 choice_by s o pairs End = Chosen 0

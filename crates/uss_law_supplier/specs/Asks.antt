@@ -1,11 +1,11 @@
--- What comes of a request: why it is refused, in the order in which the refusals are tried, or that a job opens for it, goes on, or has
--- its answer already. All of this is this project's own.
-use Rattle.std.specs.Prelude.{ℕ, ◌+◌, ℤ, pos, ◌+ℤ◌, int_lt, Bool, true, false, not, ◌&&◌, ◌==◌, nat_lt, nat_le, List, [], ◌∷◌, ◌++◌, length, Option, Some, None, option_and_then, is_none, if◌then◌else◌}
+-- What comes of a request. The refusals are tried in this order. 301: its plan is none. 306: its number is below that of the flight's last
+-- request. 307: it has that number and another wish. One that has that number and the same wish is a repeat: it resumes its job, or gets
+-- the answer again that the book keeps. A new request is refused 305, where another is open; 309, where the flight has ended; 308, where
+-- nothing is held of it to be changed or ended; 302, where the flight may not go to that state; 304, where an alternative is over; 303,
+-- where one ends too late; 310, where the journal has no room. Else a job opens for it and goes on. All of this is this project's own.
+use Rattle.std.specs.Prelude.{ℕ, ◌+◌, ℤ, pos, ◌+ℤ◌, int_lt, Bool, true, false, not, ◌&&◌, ◌==◌, nat_lt, nat_le, List, [], ◌∷◌, ◌++◌, length, map, Option, Some, None, option_and_then, is_none, if◌then◌else◌}
 use Rattle.std.specs.List.{list_any, list_all}
-use Rattle.std.specs.Cmp.Lexicographic.{pointwise}
 use Rattle.uss_vol4.specs.Volume.{Volume4D}
-use Rattle.uss_vol4.specs.Same.{same_volume}
-use Rattle.uss_intent.specs.States.{same_state}
 use Rattle.uss_intent.specs.declared.records.State.{State}
 use Rattle.uss_event.specs.Same.{differing}
 use Rattle.uss_event.specs.Refusals.{number_of, refusal_of}
@@ -15,7 +15,6 @@ use Rattle.uss_event.specs.declared.asks.Wish.{Wish}
 use Rattle.uss_event.specs.declared.asks.Wish.TheVariants.{Put, End}
 use Rattle.uss_event.specs.declared.asks.FlightAsk.{FlightAsk}
 use Rattle.uss_event.specs.declared.asks.AskField.{AskField}
-use Rattle.uss_event.specs.declared.asks.AskField.TheVariants as Fields
 use Rattle.uss_event.specs.declared.asks.AskRefusal.{AskRefusal}
 use Rattle.uss_event.specs.declared.asks.AskRefusal.TheVariants as Refuses
 use Rattle.uss_event.specs.declared.entries.Entry.{Entry}
@@ -40,15 +39,15 @@ first_some (Some x ∷ xs) = Some x
 
 -- 301: by the number of what is wrong with the plan
 
--- what is wrong with an alternative of a wish into a state: 121 to 125
+-- what is wrong with an alternative, in a state and at a priority: 121 to 125
 abbrev pub proposal_refusal : State → ℕ → Proposal → Option ℕ
 proposal_refusal to priority p = option_and_then number_of (refusal_of to p.volumes p.off_nominal priority)
 
+-- and with the first of several with which something is wrong
 abbrev pub proposals_refusal : State → ℕ → List Proposal → Option ℕ
-proposals_refusal to priority [] = None
-proposals_refusal to priority (p ∷ ps) = first_some (proposal_refusal to priority p ∷ proposals_refusal to priority ps ∷ [])
+proposals_refusal to priority proposals = first_some (map (proposal_refusal to priority) proposals)
 
--- 127: not 1 to 16 rounds; 126: not 1 to 8 alternatives; else the first alternative that has a refusal
+-- 127: not 1 to 16 rounds; 126: not 1 to 8 alternatives; else what is wrong with an alternative. With an End nothing is wrong
 abbrev pub plan_refusal : Wish → Option ℕ
 plan_refusal (Put to priority rounds proposals) =
     if not (nat_le 1 rounds && nat_le rounds 16) then Some 127
@@ -58,7 +57,7 @@ plan_refusal End = None
 
 -- the refusals of a new request, each where it applies
 
--- 305: another request for the flight is open
+-- 305: another request for the flight is open, which has this number
 abbrev pub busy_by : Option Opening → Option AskRefusal
 busy_by None = None
 busy_by (Some o) = Some (Refuses.Busy o.ask.number)
@@ -93,10 +92,11 @@ is_over moment p = list_all (λ (v : Volume4D). int_lt v.end moment) (p.volumes 
 abbrev pub past : ℤ → FlightAsk → Option AskRefusal
 past moment ask = if list_any (is_over moment) (proposals_of ask.wish) then Some Refuses.Past else None
 
--- 303: some extent of some alternative ends more than 30 days after the moment
+-- so far ahead a flight may be planned: 30 days, in ns, since nothing that is recorded expires by itself
 abbrev pub horizon : ℤ
 horizon = pos 2592000000000000
 
+-- 303: some extent of some alternative ends later than that
 abbrev pub too_far : ℤ → FlightAsk → Option AskRefusal
 too_far moment ask =
     if list_any (λ (v : Volume4D). int_lt (moment +ℤ horizon) v.end) (all_extents (proposals_of ask.wish)) then Some (Refuses.TooFar (moment +ℤ horizon)) else None
@@ -105,23 +105,24 @@ too_far moment ask =
 abbrev pub opening_entry : List Entry → ℤ → FlightAsk → Entry
 opening_entry book moment ask = Enters.Opened (length (openings book) + 1) moment ask
 
--- 310: the journal hasn't the room that the job may need beside what is kept free
+-- 310: the journal hasn't the room that the job may need, and its first entry, beside what is kept free
 abbrev pub full : List Entry → ℤ → FlightAsk → Option AskRefusal
 full book moment ask =
     if nat_lt journal_limit (journal_length book + need book + 8388608 + record_length (opening_entry book moment ask))
     then Some (Refuses.BookFull (journal_length book) (need book)) else None
 
--- why a new request is refused, in the order in which the refusals are tried
+-- why a new request is refused: for the first of these that applies
 unfoldable pub new_refusal : List Entry → ℤ → FlightAsk → Option AskRefusal
 new_refusal book moment ask =
     first_some (busy book ask ∷ ended book ask ∷ unknown book ask ∷ wrong book ask ∷ past moment ask ∷ too_far moment ask ∷ full book moment ask ∷ [])
 
 -- what comes of the request
 
+-- a refusal enters nothing, calls nobody and changes nothing
 abbrev pub refusing : Standing → AskRefusal → Turn
 refusing s refusal = saying s.values (Says.Refused refusal)
 
--- a job opens for it and goes on
+-- a job opens for it, and goes on by the book
 abbrev pub opening_for : Standing → ℤ → FlightAsk → Opening
 opening_for s moment ask = record { job = length (openings s.book) + 1; moment = moment; ask = ask }
 
@@ -141,7 +142,7 @@ abbrev pub asked_for : Standing → Opening → Bool → Turn
 asked_for s o true = answered_again s o
 asked_for s o false = resuming s o
 
--- the flight's last request is repeated: with the same wish
+-- it has the number of the flight's last request: with the same wish it repeats that one
 abbrev pub repeated_by : Standing → Opening → Option AskField → Turn
 repeated_by s o (Some field) = refusing s (Refuses.DifferentRepeat field)
 repeated_by s o None = asked_for s o (is_closed o.job s.book)
@@ -149,7 +150,7 @@ repeated_by s o None = asked_for s o (is_closed o.job s.book)
 abbrev pub repeated : Standing → Opening → FlightAsk → Turn
 repeated s o ask = repeated_by s o (differing o.ask.wish ask.wish)
 
--- the request is held against the flight's last one
+-- it is held against the flight's last request
 abbrev pub asked_after : Standing → ℤ → FlightAsk → Option Opening → Turn
 asked_after s moment ask None = asked_anew s moment ask
 asked_after s moment ask (Some last) =
@@ -161,5 +162,6 @@ abbrev pub asked_with : Standing → ℤ → FlightAsk → Option ℕ → Turn
 asked_with s moment ask (Some number) = refusing s (Refuses.BadPlan number)
 asked_with s moment ask None = asked_after s moment ask (last_of ask.flight s.book)
 
+-- whatever else it is, it has to be a plan
 abbrev pub asked : Standing → ℤ → FlightAsk → Turn
 asked s moment ask = asked_with s moment ask (plan_refusal ask.wish)

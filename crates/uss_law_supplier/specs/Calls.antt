@@ -1,10 +1,9 @@
 -- The calls of a job, by its book. The calls are those of the OpenAPI annex of ASTM F3548-21; which job makes which is this project's
 -- own.
-use Rattle.std.specs.Prelude.{ℕ, Bool, false, ◌&&◌, ◌==◌, List, [], Option, Some, None, option_map, option_and_then}
+use Rattle.std.specs.Prelude.{ℕ, Bool, false, List, [], Option, Some, None, option_map, option_and_then}
 use Rattle.std.specs.List.{last_or}
 use Rattle.uss_vol4.specs.Volume.{Volume4D}
 use Rattle.uss_vol4.specs.Bounding.{bounding_box, volume_of}
-use Rattle.uss_intent.specs.Same.{same_text, same_ask}
 use Rattle.uss_intent.specs.declared.calls.DssAsk.{DssAsk}
 use Rattle.uss_intent.specs.declared.calls.DssAsk.TheVariants as Asks
 use Rattle.uss_event.specs.Same.{same_call}

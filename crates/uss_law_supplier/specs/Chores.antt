@@ -1,6 +1,6 @@
--- What closed jobs have still to do. That subscribers are told of changes is after ASTM F3548-21; the order and the rest are this
--- project's own.
-use Rattle.std.specs.Prelude.{ℕ, Bool, ◌&&◌, List, ◌++◌, take, drop, map, filter, filter_map, flat_map, slice_get, Option, Some, option_and_then}
+-- What closed jobs have still to do: to tell whom they owe a notification, and to take their tickets out. That subscribers are told of
+-- changes is after ASTM F3548-21; the order and the rest are this project's own.
+use Rattle.std.specs.Prelude.{ℕ, Bool, List, ◌++◌, take, drop, map, filter, filter_map, flat_map, slice_get, Option, Some, option_and_then}
 use Rattle.std.specs.Option.{option_map}
 use Rattle.uss_intent.specs.declared.records.Subscriber.{Subscriber}
 use Rattle.uss_intent.specs.Numbers.{is_one_of}
@@ -11,7 +11,7 @@ use Rattle.uss_event.specs.declared.calls.PeerCall.TheVariants as Calls
 use Rattle.uss_event.specs.declared.calls.Outgoing.{Outgoing}
 use Rattle.uss_event.specs.declared.calls.Outgoing.TheVariants as Goes
 use Rattle.uss_law_book.specs.Lists.{Opening, openings}
-use Rattle.uss_law_book.specs.Readings.{opening_of, owed_of, untold, is_closed, is_ticket_due}
+use Rattle.uss_law_book.specs.Readings.{opening_of, owed_of, untold, is_ticket_due}
 use Rattle.uss_law_book.specs.Attempts.{held}
 use Rattle.uss_law_duty.specs.Answers.{flight_of}
 use Rattle.uss_law_duty.specs.Sends.{ticket_remove}
@@ -19,26 +19,23 @@ use Rattle.uss_law_supplier.specs.declared.duties.Chore.{Chore}
 use Rattle.uss_law_supplier.specs.declared.duties.Chore.TheVariants.{Tell, Retire}
 use Rattle.uss_law_supplier.specs.Turns.{Standing, Turn, sending, dss_call}
 
--- the notifications that a job owes and that weren't answered, by their places
+-- the notifications that a closed job owes and that weren't answered, by their places
 abbrev pub tells_of : List Entry → Opening → List Chore
 tells_of book o = map (λ place. Tell o.job place) (untold o.job book)
 
--- the job's ticket is to be taken out
+-- the job is closed, and its ticket is there and not needed
 abbrev pub is_due : List Entry → Opening → Bool
 is_due book o = is_ticket_due o.job book
 
--- first what is to be told, by job and place, and then the tickets to be taken out, by job
+-- the chores: first what is to be told, by job and place, and then the tickets to be taken out, by job
 unfoldable pub chores : List Entry → List Chore
 chores book = flat_map (tells_of book) (openings book) ++ map (λ (o : Opening). Retire o.job) (filter (is_due book) (openings book))
 
--- the notification stands, and the ticket is to be taken out
+-- the notification at this place is still to be made
 abbrev pub is_to_tell : ℕ → ℕ → List Entry → Bool
-is_to_tell job place book = is_closed job book && is_one_of place (untold job book)
+is_to_tell job place book = is_one_of place (untold job book)
 
-abbrev pub is_to_retire : ℕ → List Entry → Bool
-is_to_retire job book = is_ticket_due job book
-
--- what a subscriber is told: what is held of the flight at the moment
+-- what a subscriber is told: what is held of the flight at the moment, which is nothing where the flight has ended
 abbrev pub note_of : Owner → List Entry → Opening → Subscriber → Note
 note_of owner book o subscriber =
     record { flight = flight_of owner o; pair = held o.ask.flight book; ticket = subscriber.ticket; index = subscriber.index }

@@ -1,4 +1,6 @@
--- How a job goes on, and how each of its duties is carried out. This project's own.
+-- How a job goes on, and how each of its duties is carried out. Where a helper is given what a sound supplier never comes to, as a
+-- reference without an OVN where one was recorded, it says nothing; that each step says something or makes a call is among the duties.
+-- This project's own.
 use Rattle.std.specs.Prelude.{ℕ, ◌+◌, Bool, true, false, List, [], ◌∷◌, length, map, slice_get, Option, Some, None, option_and_then, unwrap_or, is_some}
 use Rattle.uss_intent.specs.Refusals.{refusal_number}
 use Rattle.uss_intent.specs.declared.records.Reference.{Reference}
@@ -48,6 +50,7 @@ use Rattle.uss_law_supplier.specs.Airspace.{next_unheard, is_left, pairs_in, key
 
 -- what decides a job's next duty
 
+-- the wish is held against others, and its attempts have a key: into Accepted or Activated
 abbrev pub keeps_key : Wish → Bool
 keeps_key (Put to priority rounds proposals) = is_strategic to
 keeps_key End = false
@@ -104,7 +107,8 @@ abbrev pub owns_tag : ℕ → List Entry → Option ℕ → Bool
 owns_tag job book None = false
 owns_tag job book (Some tag) = owns job tag book
 
--- what a reply says to a job, once its round is as the reply leaves it
+-- what a reply says to a job, once its round is as the reply leaves it; a query's and a peer's with whether a reference is left to be
+-- asked for
 abbrev pub heard_of_dss : Standing → Opening → DssReply → Heard
 heard_of_dss s o (Replies.Found references) = Hears.Found (length (others (flight_of s.owner o) references)) (is_left s.owner s.values.heard (round_of o.job s.values))
 heard_of_dss s o (Replies.Got reference) = Hears.Got (owns_tag o.job s.book (shown_tag reference))
@@ -119,7 +123,7 @@ abbrev pub heard_of_peer : Standing → Opening → PeerReply → Heard
 heard_of_peer s o (Peers.Status status) = Hears.Status status
 heard_of_peer s o _ = Hears.Answered (is_left s.owner s.values.heard (round_of o.job s.values))
 
--- a query begins a round, and of a flight of which nothing is held the round says so
+-- what a query finds begins a round, of the references of other flights; a flight of which its manager holds nothing is left out
 abbrev pub round_by_dss : Standing → Opening → DssReply → Values
 round_by_dss s o (Replies.Found references) = in_round o.job (round_with (others (flight_of s.owner o) references)) s.values
 round_by_dss s o _ = s.values
@@ -128,7 +132,7 @@ abbrev pub round_by_peer : Standing → Opening → PeerCall → PeerReply → V
 round_by_peer s o (Calls.Details job flight manager base) Peers.Gone = in_round o.job (leaving_out flight (round_of o.job s.values)) s.values
 round_by_peer s o call reply = s.values
 
--- the parts of what is done
+-- how duties are carried out
 
 -- the job makes its call of a kind, as its book has it, and waits for it
 abbrev pub making : Standing → ℕ → Option DssAsk → Turn
@@ -138,14 +142,14 @@ making s job (Some ask) = calling job (dss_call job ask) s.values
 abbrev pub asking : Standing → Opening → Awaited → Turn
 asking s o kind = making s o.job (call_of s.owner s.book o kind)
 
--- it makes an attempt of an alternative, with a key
+-- it makes an attempt of an alternative, with a key: under the next tag of the book, from what is held of the flight; and makes its Put
 abbrev pub pending : Standing → Opening → ℕ → List (List ℕ) → Entry
 pending s o alternative key = Enters.Pending o.job (length (trials s.book) + 1) alternative (base_of o.ask.flight s.book) key
 
 abbrev pub attempting : Standing → Opening → ℕ → List (List ℕ) → Turn
 attempting s o alternative key = entering s (pending s o alternative key) (λ after. asking after o Waits.Put)
 
--- it is closed: it says what the book keeps of it, and waits for nothing
+-- a job that an entry closes says what the book with that entry keeps of it, and waits for nothing
 abbrev pub answering : Opening → Standing → Turn
 answering o after = saying (without_job o.job after.values) (said_of (kept_answer after.owner o after.book))
 
@@ -156,16 +160,16 @@ abbrev pub holding_as : Standing → Opening → List Subscriber → Reference �
 holding_as s o owed r (Some tag) (Some ovn) = entering s (Enters.Held o.job tag ovn r.version owed) (answering o)
 holding_as s o owed r tag ovn = saying s.values Says.Nothing
 
--- it records what the reference shows
+-- it holds what the reference shows: the tag, the OVN and the version; and owes a notification to each subscriber that the reply listed
 abbrev pub recording : Standing → Opening → List Subscriber → Option Reference → Turn
 recording s o owed None = saying s.values Says.Nothing
 recording s o owed (Some r) = holding_as s o owed r (shown_tag r) r.ovn
 
--- it makes no further attempt, and takes its ticket out
+-- it makes no further attempt, and takes its ticket out: once that is gone, no attempt of the job can be recorded
 abbrev pub deciding : Standing → Opening → Ending → Turn
 deciding s o end = entering s (Enters.Deciding o.job end) (λ after. asking after o Waits.TicketRemove)
 
--- it gives up: at once where it made no attempt
+-- it gives up: at once where it made no attempt, since nothing can be recorded then
 abbrev pub giving_up_after : Standing → Opening → Ending → List Trial → Turn
 giving_up_after s o end [] = ending s o end
 giving_up_after s o end (t ∷ ts) = deciding s o end
@@ -183,11 +187,11 @@ abbrev pub closing : Standing → Opening → List Subscriber → Wish → Turn
 closing s o owed (Put to priority rounds proposals) = ending_as s o (decision_of o.job s.book)
 closing s o owed End = ending s o (Ends.Ended owed)
 
--- it waits for nothing, and says why; it stays open
+-- it stops: it says why and waits for nothing. It stays open, and its request resumes it
 abbrev pub stopping : Standing → Opening → Answer → Turn
 stopping s o answer = saying (without_job o.job s.values) (Says.Answer answer)
 
--- it asks another supplier for the details of a reference
+-- it asks the manager of the next reference for the details, and asks so once in a round
 abbrev pub looking_at : Standing → Opening → Option Reference → Turn
 looking_at s o None = saying s.values Says.Nothing
 looking_at s o (Some r) =
@@ -196,7 +200,7 @@ looking_at s o (Some r) =
 abbrev pub looking : Standing → Opening → Turn
 looking s o = looking_at s o (next_unheard s.owner s.values.heard (round_of o.job s.values))
 
--- nothing is entered where a choice names no pair; it always names one
+-- a pair stands against the flight: the job gives up, with that pair's flight and manager and by the rule that it breaks
 abbrev pub blocked_by : Standing → Opening → Verdict → Option OperationalIntent → Turn
 blocked_by s o rule None = saying s.values Says.Nothing
 blocked_by s o rule (Some p) = giving_up s o (Ends.Conflict p.reference.flight p.reference.manager rule)
@@ -205,6 +209,7 @@ abbrev pub choosing_by : Standing → Opening → List OperationalIntent → Cho
 choosing_by s o pairs (Chosen alternative) = attempting s o alternative (key_of pairs)
 choosing_by s o pairs (Blocked place rule) = blocked_by s o rule (slice_get pairs place)
 
+-- it chooses among its alternatives, against the pairs of its round
 abbrev pub choosing_among : Standing → Opening → List OperationalIntent → Turn
 choosing_among s o pairs = choosing_by s o pairs (choice_of s o pairs)
 
@@ -216,15 +221,17 @@ abbrev pub call_made : Standing → Opening → Awaited → Turn
 call_made s o Waits.Details = looking s o
 call_made s o kind = asking s o kind
 
--- a job that waits for a call makes it again; one that waits for nothing goes on by its book
+-- a duty is carried out that needs nothing of a reply
 abbrev pub carry_on : Standing → Opening → Duty → Turn
 carry_on s o (Duties.Call kind) = call_made s o kind
 carry_on s o Duties.Attempt = attempting s o 0 []
 carry_on s o _ = saying s.values Says.Nothing
 
+-- the job goes on by its book
 abbrev pub going_on : Standing → Opening → Turn
 going_on s o = carry_on s o (by_book (view_of s o))
 
+-- it is resumed: the call that it waits for goes out again; one that waits for nothing goes on by its book
 abbrev pub resuming_by : Standing → Opening → Option Outgoing → Turn
 resuming_by s o (Some call) = sending s.values (call ∷ [])
 resuming_by s o None = going_on s o
@@ -258,7 +265,7 @@ carry_out_peer s o call reply Duties.Choose = choosing s o
 carry_out_peer s o call reply Duties.PeerRefused = stopping s o (Answers.PeerRefused (manager_of call) (status_of reply))
 carry_out_peer s o call reply duty = carry_on s o duty
 
--- the job acts on the reply to the call that it waited for
+-- the job acts on the fitting reply to the call that it waits for, by the table
 abbrev pub acting_on_dss : Standing → Opening → DssReply → Turn
 acting_on_dss s o reply = carry_out s o reply (on_reply (view_of s o) (heard_of_dss s o reply))
 
@@ -268,7 +275,7 @@ acting_on_peer s o call reply = carry_out_peer s o call reply (on_reply (view_of
 abbrev pub with_values : Standing → Values → Standing
 with_values s values = record { owner = s.owner; book = s.book; values = values }
 
--- a reply to an open job is acted on where it fits and is the one that the job waits for; any other makes the job resume
+-- a reply to an open job is acted on where it fits its call and the job waits for that call; any other resumes the job
 abbrev pub open_by_dss : Standing → Opening → DssReply → Bool → Turn
 open_by_dss s o reply true = acting_on_dss (with_values s (round_by_dss s o reply)) o reply
 open_by_dss s o reply false = resuming s o

@@ -1,6 +1,8 @@
--- What comes of a reply. A reply to a job that was never opened comes to nothing, but that a fitting pair is heard. This project's own.
-use Rattle.std.specs.Prelude.{ℕ, ◌==◌, Bool, true, false, ◌&&◌, List, [], Option, Some, None, if◌then◌else◌}
-use Rattle.uss_intent.specs.Same.{same_text, same_ask}
+-- What comes of a reply to a call of a job. A pair that fits its call is heard, whatever the job is. Then a reply to a job that was never
+-- opened comes to nothing; one to an open job is acted on, or resumes the job; one to a closed job may settle a chore, and else brings the
+-- answer again that the book keeps. This project's own.
+use Rattle.std.specs.Prelude.{ℕ, Bool, true, false, ◌&&◌, List, [], Option, Some, None, if◌then◌else◌}
+use Rattle.uss_intent.specs.Same.{same_ask}
 use Rattle.uss_intent.specs.declared.calls.DssAsk.{DssAsk}
 use Rattle.uss_intent.specs.declared.calls.DssReply.{DssReply}
 use Rattle.uss_intent.specs.declared.calls.DssReply.TheVariants as Replies
@@ -17,20 +19,18 @@ use Rattle.uss_event.specs.declared.calls.Outgoing.TheVariants as Goes
 use Rattle.uss_event.specs.declared.events.Said.TheVariants as Says
 use Rattle.uss_law_dss.specs.Fits.{fits}
 use Rattle.uss_law_book.specs.Lists.{Opening}
-use Rattle.uss_law_book.specs.Readings.{opening_of, is_closed}
+use Rattle.uss_law_book.specs.Readings.{opening_of, is_closed, is_ticket_due}
 use Rattle.uss_law_duty.specs.Heard.{News, by_reply}
 use Rattle.uss_law_duty.specs.Answers.{job_of_call}
 use Rattle.uss_law_duty.specs.Sends.{ticket_remove}
 use Rattle.uss_law_supplier.specs.Values.{hearing, awaited_of}
 use Rattle.uss_law_supplier.specs.Calls.{is_it}
 use Rattle.uss_law_supplier.specs.Turns.{Standing, Turn, saying, entering}
-use Rattle.uss_law_supplier.specs.Chores.{is_to_tell, is_to_retire}
+use Rattle.uss_law_supplier.specs.Chores.{is_to_tell}
 use Rattle.uss_law_supplier.specs.Jobs.{with_values, open_by_dss, open_by_peer}
 use Rattle.uss_law_supplier.specs.Asks.{answered_again}
 
--- a reply to a closed job enters what its chore comes to, where the chore stands; any other brings the kept answer again
-
--- the reply says that the ticket is gone
+-- the reply says that the ticket is gone: now, or that it was removed before
 abbrev pub is_retired : DssRefusal → Bool
 is_retired Refuses.Retired = true
 is_retired _ = false
@@ -40,11 +40,11 @@ takes_out (Replies.TicketRemoved ticket) = true
 takes_out (Replies.Refused refusal) = is_retired refusal
 takes_out _ = false
 
--- the call took the job's ticket out, as it was to be
+-- the call took out the job's ticket, which is still to be taken out
 unfoldable pub retires : Standing → Opening → DssAsk → DssReply → Bool
-retires s o ask reply = same_ask ask (ticket_remove s.owner o.job) && (fits ask reply && (takes_out reply && is_to_retire o.job s.book))
+retires s o ask reply = same_ask ask (ticket_remove s.owner o.job) && (fits ask reply && (takes_out reply && is_ticket_due o.job s.book))
 
--- a notification was answered that was to be made
+-- the call told what is still to be told. The place decides and not the note, since what is held may have changed meanwhile
 unfoldable pub is_told_now : Standing → Opening → PeerCall → PeerReply → Bool
 is_told_now s o (Calls.Notify job place base note) Peers.Noted = is_to_tell o.job place s.book
 is_told_now s o _ _ = false
@@ -71,6 +71,7 @@ waits_for_dss s o call = is_it (Goes.Dss call) (awaited_of o.job s.values)
 abbrev pub waits_for_peer : Standing → Opening → PeerCall → Bool
 waits_for_peer s o call = is_it (Goes.Peer call) (awaited_of o.job s.values)
 
+-- by whether the job is closed
 abbrev pub of_job_by_dss : Standing → Opening → DssCall → DssReply → Bool → Turn
 of_job_by_dss s o call reply true = closed_by_dss s o (retires s o call.ask reply)
 of_job_by_dss s o call reply false = open_by_dss s o reply (fits call.ask reply && waits_for_dss s o call)
@@ -90,7 +91,7 @@ abbrev pub replied_to_peer : Standing → PeerCall → PeerReply → Option Open
 replied_to_peer s call reply None = saying s.values Says.Nothing
 replied_to_peer s call reply (Some o) = of_job_by_peer s o call reply (is_closed o.job s.book)
 
--- a fitting pair is heard before all else
+-- a pair that fits the call is heard before all else
 abbrev pub heard_by : PeerCall → PeerReply → List News
 heard_by call reply = if peer_fits call reply then by_reply reply else []
 

@@ -1,0 +1,58 @@
+-- Worked steps of what closed jobs have still to do: two notifications that job 1 owes, one of job 2, which changed the same flight, and
+-- the tickets of job 1, which isn't needed any more, and of job 3, which was cancelled.
+use Rattle.std.specs.Prelude.{ℕ, List, [], ◌∷◌, ◌++◌, codes, Some, None}
+use Rattle.uss_intent.specs.Identifiers.{ticket_number}
+use Rattle.uss_intent.specs.declared.records.Subscriber.{Subscriber}
+use Rattle.uss_intent.specs.declared.records.State.TheVariants.{Activated}
+use Rattle.uss_intent.specs.declared.calls.DssAsk.{DssAsk}
+use Rattle.uss_intent.specs.declared.calls.DssAsk.TheVariants as Asks
+use Rattle.uss_event.specs.Pairs.{OperationalIntent}
+use Rattle.uss_event.specs.declared.entries.Ending.TheVariants as Ends
+use Rattle.uss_event.specs.declared.entries.Entry.{Entry}
+use Rattle.uss_event.specs.declared.entries.Entry.TheVariants as Enters
+use Rattle.uss_event.specs.declared.calls.PeerCall.{PeerCall}
+use Rattle.uss_event.specs.declared.calls.PeerCall.TheVariants as Calls
+use Rattle.uss_event.specs.declared.calls.Outgoing.{Outgoing}
+use Rattle.uss_event.specs.declared.calls.Outgoing.TheVariants as Goes
+use Rattle.uss_law_book.specs.Attempts.{attempted, recorded_as}
+use Rattle.uss_law_duty.specs.Worked.{owner, now, proposal, flight, ovn, tried_book, subscriber}
+use Rattle.uss_law_supplier.specs.Cases.{upper_ask}
+use Rattle.uss_law_supplier.specs.Flown.{flown_ask, flown_opened, flown_pending, flown_ovn}
+
+abbrev pub third_subscriber : Subscriber
+third_subscriber = record { base = codes "http://uss3.test"; ticket = ticket_number 3 1; index = 5 }
+
+abbrev pub chores_book : List Entry
+chores_book =
+    tried_book
+    ++ Enters.Held 1 1 ovn 1 (subscriber ∷ third_subscriber ∷ [])
+    ∷ flown_opened
+    ∷ Enters.TicketOpen 2
+    ∷ flown_pending
+    ∷ Enters.Held 2 2 flown_ovn 2 (subscriber ∷ [])
+    ∷ Enters.Opened 3 now upper_ask
+    ∷ Enters.TicketOpen 3
+    ∷ Enters.Done 3 Ends.Cancelled
+    ∷ []
+
+-- what is held of the flight then
+abbrev pub flown_pair : OperationalIntent
+flown_pair = recorded_as (attempted owner (record { job = 2; moment = now; ask = flown_ask }) (record { job = 2; tag = 2; alternative = 0; previous = Some ovn; key = [] }) Activated 0 proposal) flown_ovn 2
+
+-- a job tells a subscriber, at a place, of that
+abbrev pub tells_flown : ℕ → ℕ → Subscriber → Outgoing
+tells_flown job place s = Goes.Peer (Calls.Notify job place s.base (record { flight = flight; pair = Some flown_pair; ticket = s.ticket; index = s.index }))
+
+-- the first of each is done
+abbrev pub fewer_chores_book : List Entry
+fewer_chores_book = chores_book ++ Enters.Sent 1 0 ∷ Enters.TicketGone 1 ∷ []
+
+abbrev pub third_remove : DssAsk
+third_remove = Asks.TicketRemove (ticket_number 1 3) 1
+
+-- the flight has ended, of which another supplier is to be told
+abbrev pub ended_owing : Entry
+ended_owing = Enters.Done 2 (Ends.Ended (subscriber ∷ []))
+
+abbrev pub told_of_end : PeerCall
+told_of_end = Calls.Notify 2 0 subscriber.base (record { flight = flight; pair = None; ticket = subscriber.ticket; index = subscriber.index })

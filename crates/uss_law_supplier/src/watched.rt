@@ -1,0 +1,53 @@
+//! Worked positions of a flight: what the monitor finds, and what change of state it comes to.
+#![tactic(auto, unfolding(crate::proofs::Computed::computed))]
+
+ghost use Rattle.std.specs.Prelude.{[], ◌∷◌, Some, None};
+ghost use Rattle.uss_event.specs.declared.asks.AskRefusal.TheVariants as Why;
+ghost use Rattle.uss_event.specs.declared.asks.Conform.TheVariants as Finds;
+ghost use Rattle.uss_event.specs.declared.entries.Entry.TheVariants as Enters;
+ghost use Rattle.uss_event.specs.declared.events.Answer.TheVariants as Says;
+ghost use Rattle.uss_event.specs.declared.events.Event.TheVariants as Comes;
+ghost use Rattle.uss_event.specs.declared.events.Said.TheVariants.{Nothing, Answer};
+ghost use Rattle.uss_law_duty.specs.Worked.{volume, new_book, held_book};
+ghost use Rattle.uss_law_supplier.specs.Flown.{flown_book, strayed_book, strayed_pending, strayed_put, nonconforming_book, contingent_book, first_seen, a_minute_later, two_minutes_later, just_before, within, around_it, strays, straying, losing, losing_inside, returning, ticket_round, seen_outside, seen_inside, seen, and_seen};
+ghost use Rattle.uss_law_supplier.specs.Worked.{DoesAt, RefusesAt, nothing, calls, waits};
+
+/// A flight that is flown is inside its volume; it strays, and goes into Nonconforming; a minute later it is still outside, and goes into
+/// Contingent. Each position is counted.
+pub fn a_flight_strays_and_is_lost()
+    ensures inside { DoesAt first_seen flown_book nothing (Comes.Position (within 3)) None [] (Answer (Says.Steady Finds.Conforming)) (seen (seen_inside first_seen ∷ [])) }
+    ensures outside { DoesAt a_minute_later flown_book (seen (seen_inside first_seen ∷ [])) (Comes.Position (strays 3)) (Some (Enters.Opened 3 a_minute_later (straying 3)))
+        (calls 3 (ticket_round 3 around_it)) Nothing (and_seen (seen_inside first_seen ∷ seen_outside a_minute_later ∷ []) (waits 3 (ticket_round 3 around_it))) }
+    ensures almost_a_minute { DoesAt just_before nonconforming_book (seen (seen_inside first_seen ∷ seen_outside a_minute_later ∷ [])) (Comes.Position (strays 4)) None []
+        (Answer (Says.Steady Finds.Nonconforming)) (seen (seen_inside first_seen ∷ seen_outside a_minute_later ∷ seen_outside just_before ∷ [])) }
+    ensures a_minute { DoesAt two_minutes_later nonconforming_book (seen (seen_inside first_seen ∷ seen_outside a_minute_later ∷ [])) (Comes.Position (strays 4)) (Some (Enters.Opened 4 two_minutes_later (losing 4)))
+        (calls 4 (ticket_round 4 around_it)) Nothing (and_seen (seen_inside first_seen ∷ seen_outside a_minute_later ∷ seen_outside two_minutes_later ∷ []) (waits 4 (ticket_round 4 around_it))) }
+    ensures lost_at_once { DoesAt two_minutes_later flown_book (seen (seen_outside a_minute_later ∷ [])) (Comes.Position (strays 3)) (Some (Enters.Opened 3 two_minutes_later (losing 3)))
+        (calls 3 (ticket_round 3 around_it)) Nothing (and_seen (seen_outside a_minute_later ∷ seen_outside two_minutes_later ∷ []) (waits 3 (ticket_round 3 around_it))) }
+{}
+
+/// A straying flight that is inside again goes back into Activated, in its held volume alone and in four rounds; its time outside is
+/// forgotten. One that was lost stays lost.
+pub fn a_flight_comes_back_or_is_lost()
+    ensures back { DoesAt two_minutes_later nonconforming_book (seen (seen_outside a_minute_later ∷ [])) (Comes.Position (within 4)) (Some (Enters.Opened 4 two_minutes_later (returning 4)))
+        (calls 4 (ticket_round 4 volume)) Nothing (and_seen (seen_outside a_minute_later ∷ seen_inside two_minutes_later ∷ []) (waits 4 (ticket_round 4 volume))) }
+    ensures out_again { DoesAt two_minutes_later nonconforming_book (seen (seen_outside first_seen ∷ seen_inside a_minute_later ∷ [])) (Comes.Position (strays 4)) None []
+        (Answer (Says.Steady Finds.Nonconforming)) (seen (seen_outside first_seen ∷ seen_inside a_minute_later ∷ seen_outside two_minutes_later ∷ [])) }
+    ensures lost { DoesAt two_minutes_later nonconforming_book (seen (seen_outside first_seen ∷ seen_outside a_minute_later ∷ [])) (Comes.Position (within 4)) (Some (Enters.Opened 4 two_minutes_later (losing_inside 4)))
+        (calls 4 (ticket_round 4 volume)) Nothing (and_seen (seen_outside first_seen ∷ seen_outside a_minute_later ∷ seen_inside two_minutes_later ∷ []) (waits 4 (ticket_round 4 volume))) }
+    ensures nothing_left { DoesAt two_minutes_later contingent_book (seen (seen_outside first_seen ∷ seen_outside a_minute_later ∷ [])) (Comes.Position (strays 5)) None []
+        (Answer (Says.Steady Finds.Contingent)) (seen (seen_outside first_seen ∷ seen_outside a_minute_later ∷ seen_outside two_minutes_later ∷ [])) }
+    ensures not_flown { DoesAt first_seen held_book nothing (Comes.Position (strays 2)) None [] (Answer (Says.Steady Finds.Nonconforming)) (seen (seen_outside first_seen ∷ [])) }
+{}
+
+/// A position isn't counted that is refused, whether for itself or as a request, or that resumes an open job; that it resumes it comes
+/// before a later position, and that nothing is held of the flight before all else. A position at the moment of the last one is counted.
+pub fn positions_may_not_count()
+    ensures unknown { RefusesAt first_seen new_book nothing (Comes.Position (within 2)) Why.NoSuchFlight }
+    ensures late { RefusesAt first_seen held_book (seen (seen_inside a_minute_later ∷ [])) (Comes.Position (within 2)) (Why.OldPosition a_minute_later) }
+    ensures as_late { DoesAt first_seen held_book (seen (seen_inside first_seen ∷ [])) (Comes.Position (within 2)) None [] (Answer (Says.Steady Finds.Conforming)) (seen (seen_inside first_seen ∷ seen_inside first_seen ∷ [])) }
+    ensures busy { RefusesAt first_seen strayed_book nothing (Comes.Position (strays 4)) (Why.Busy 3) }
+    ensures late_before_busy { RefusesAt first_seen strayed_book (seen (seen_inside a_minute_later ∷ [])) (Comes.Position (strays 4)) (Why.OldPosition a_minute_later) }
+    ensures resumed { DoesAt first_seen strayed_book nothing (Comes.Position (strays 3)) (Some strayed_pending) (calls 3 strayed_put) Nothing (waits 3 strayed_put) }
+    ensures resumed_before_late { DoesAt first_seen strayed_book (seen (seen_inside a_minute_later ∷ [])) (Comes.Position (within 3)) (Some strayed_pending) (calls 3 strayed_put) Nothing (and_seen (seen_inside a_minute_later ∷ []) (waits 3 strayed_put)) }
+{}
