@@ -111,7 +111,7 @@ kept_as_planned : IsKeptAnswer owner owing_book (replied put landed_told) (Plann
 unfolding kept_answer opening_of holding_of ending_of trial_of
 kept_as_planned = record { opening = record { job = 1; moment = now; ask = ask }; named = refl; kept = refl }
 
-landed : MayStep tried_book [] now (replied put landed_told) (Some recorded_owing) [] planned []
+pub landed : MayStep tried_book [] now (replied put landed_told) (Some recorded_owing) [] planned []
 landed =
     record {
       acts =

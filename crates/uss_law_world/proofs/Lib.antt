@@ -20,3 +20,5 @@ pub mod Between
 pub mod EachStep
 pub mod Refused
 pub mod Contested
+pub mod WorkedSteps
+pub mod FurtherRuns

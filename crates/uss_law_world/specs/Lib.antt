@@ -6,3 +6,6 @@ pub mod Suppliers
 pub mod Claims
 pub mod Worked
 pub mod Contested
+pub mod WorkedEnds
+pub mod WorkedStops
+pub mod WorkedSweeps

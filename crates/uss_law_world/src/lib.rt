@@ -3,11 +3,11 @@
 //!
 //! `specs/World.antt` has the world, `specs/Moves.antt` what may happen in it and what comes of that, `specs/Free.antt` which lists of
 //! moves are free, `specs/Refused.antt` which steps of a script the world refuses, `specs/Claims.antt` what is claimed, and
-//! `specs/Worked.antt` and `specs/Contested.antt` worked runs. In a free list of moves each step of a supplier is any that its duties
-//! allow (`MayStep` of `uss_law_duty`), and each step of the discovery service is that of its definition (`service_step` of
-//! `uss_law_dss`); messages are lost, come late or come again, and suppliers stop and restart at any moment. The functions below do
-//! nothing: their contracts carry the laws. `proofs/Facts.antt` has what is kept by every move; the proofs of the laws stand on
-//! nothing else.
+//! `specs/Worked.antt`, `specs/Contested.antt`, `specs/WorkedEnds.antt`, `specs/WorkedStops.antt` and `specs/WorkedSweeps.antt` worked
+//! runs. In a free list of moves each step of a supplier is any that its duties allow (`MayStep` of `uss_law_duty`), and each step of
+//! the discovery service is that of its definition (`service_step` of `uss_law_dss`); messages are lost, come late or come again, and
+//! suppliers stop and restart at any moment. The functions below do nothing: their contracts carry the laws. `proofs/Facts.antt` has
+//! what is kept by every move; the proofs of the laws stand on nothing else.
 //!
 //! Which clauses of `MayStep` the laws need: all of them `legal` and `records`; `keys`, `hears`, `pair`, `notes` and `held` that intents
 //! stay apart, that landings are clear and that pairs are made; `held`, `removals` and `final` that final answers are true; `held`,
@@ -31,6 +31,9 @@ ghost use Rattle.uss_law_world.specs.Free.{AreSuppliers, IsAllowed, IsFree};
 ghost use Rattle.uss_law_world.specs.Refused.{step_refusal};
 ghost use Rattle.uss_law_world.specs.Worked.{said_in, replies_in, saying, found_again, found_again_replies, cancelled_early, cancelled_early_replies, second, both_put, both_put_replies};
 ghost use Rattle.uss_law_world.specs.Contested.{given_up, given_up_replies, given_up_sayings};
+ghost use Rattle.uss_law_world.specs.WorkedEnds.{planned_replies, watched, watched_sayings, ended, ended_replies, ended_sayings};
+ghost use Rattle.uss_law_world.specs.WorkedStops.{failed, failed_sayings, stopped_twice, answered_twice, answered_twice_sayings};
+ghost use Rattle.uss_law_world.specs.WorkedSweeps.{told, told_replies, told_sayings};
 ghost use Rattle.uss_law_world.specs.Claims.{EachIsIntended, NoneForbidden, EachAtMostOnce, FinalAnswersAreTrue, LandingsAreClear, RefusalsAreSettled, EachPairIsMade, OpenLandingsStay, OpenLandingsAreGot, BooksAgree};
 
 /// The headline, first part: after every free list of moves no two recorded intents, both Accepted or Activated, of one priority at which
@@ -110,6 +113,52 @@ pub fn the_second_of_two_gives_up()
     ensures free { IsFree (start (owner ∷ second ∷ [])) given_up }
     ensures replies { replies_in (run (start (owner ∷ second ∷ [])) given_up) ≡ given_up_replies }
     ensures said { said_in (run (start (owner ∷ second ∷ [])) given_up) ≡ given_up_sayings }
+{}
+
+/// A worked run: a planned flight is where its plan says, and then above that; a position from before these is refused as old.
+pub fn a_planned_flight_is_watched()
+    ensures free { IsFree (start (owner ∷ [])) watched }
+    ensures replies { replies_in (run (start (owner ∷ [])) watched) ≡ planned_replies }
+    ensures said { said_in (run (start (owner ∷ [])) watched) ≡ watched_sayings }
+{}
+
+/// A worked run: a planned flight is ended; what was recorded is removed, a sweep takes the ticket out, and the next sweep has nothing to
+/// do.
+pub fn a_planned_flight_is_ended()
+    ensures free { IsFree (start (owner ∷ [])) ended }
+    ensures replies { replies_in (run (start (owner ∷ [])) ended) ≡ ended_replies }
+    ensures said { said_in (run (start (owner ∷ [])) ended) ≡ ended_sayings }
+{}
+
+/// A worked run: the supplier is told that its Put failed, says that its attempt may still be recorded, and finds that it is when it is
+/// asked again.
+pub fn a_call_that_failed_may_have_landed()
+    ensures free { IsFree (start (owner ∷ [])) failed }
+    ensures replies { replies_in (run (start (owner ∷ [])) failed) ≡ found_again_replies }
+    ensures said { said_in (run (start (owner ∷ [])) failed) ≡ failed_sayings }
+{}
+
+/// A worked run: the supplier stops once its Put has left, and again at the reply that it landed, before anything of that is kept; asked
+/// again, it finds its landing.
+pub fn a_put_that_left_before_a_stop_lands()
+    ensures free { IsFree (start (owner ∷ [])) stopped_twice }
+    ensures replies { replies_in (run (start (owner ∷ [])) stopped_twice) ≡ found_again_replies }
+    ensures said { said_in (run (start (owner ∷ [])) stopped_twice) ≡ saying planned ∷ [] }
+{}
+
+/// A worked run: the supplier stops once it has entered its landing and answered; asked again, it gives the same answer.
+pub fn an_answer_before_a_stop_is_kept()
+    ensures free { IsFree (start (owner ∷ [])) answered_twice }
+    ensures replies { replies_in (run (start (owner ∷ [])) answered_twice) ≡ planned_replies }
+    ensures said { said_in (run (start (owner ∷ [])) answered_twice) ≡ answered_twice_sayings }
+{}
+
+/// A worked run of two suppliers: a sweep tells the second of the first's landing, which the second notes; the next sweep has nothing to
+/// do.
+pub fn a_landing_is_told_once()
+    ensures free { IsFree (start (owner ∷ second ∷ [])) told }
+    ensures replies { replies_in (run (start (owner ∷ second ∷ [])) told) ≡ told_replies }
+    ensures said { said_in (run (start (owner ∷ second ∷ [])) told) ≡ told_sayings }
 {}
 
 /// Up to 64 suppliers that are numbered from 1 on and named so, with one table of rules, are suppliers with names of their own: what is
