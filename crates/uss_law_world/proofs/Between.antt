@@ -34,26 +34,11 @@ use Rattle.uss_law_world.specs.Free.{AreSuppliers}
 use Rattle.uss_law_world.specs.Claims.{IsLandingOf, rank_of, HoldsWhatIsRecorded, BooksAgree}
 use Rattle.uss_law_world.proofs.Books.{legal_facts, ended_is, ended_tells}
 use Rattle.uss_law_world.proofs.Lookups.{same_flight}
+use Rattle.uss_law_world.proofs.References.{same_reference}
 use Rattle.uss_law_world.proofs.Facts.{HasLanding, RecordedFrom, Facts}
 use Rattle.uss_law_world.proofs.Parts.{Stands, at, attempt_tag, attempt_flight, landed_as}
 use Rattle.uss_law_world.proofs.Jobs.{by_opening, by_holding, by_closing, holding_landing, landing_of_recorded, nothing_lands, one_of_job, previous_is, flight_is}
 use Rattle.uss_law_world.proofs.Ranks.{rank_of_last}
-
--- a reference is what its parts are
-from_parts : ℕ → List ℕ → ℕ → State → Option (List ℕ) → ℤ → ℤ → List ℕ → ℕ → Reference
-from_parts flight manager version state ovn start end base ticket =
-    record { flight = flight; manager = manager; version = version; state = state; ovn = ovn; start = start; end = end; base = base; ticket = ticket }
-
-of_parts : (r : Reference) → from_parts r.flight r.manager r.version r.state r.ovn r.start r.end r.base r.ticket ≡ r
-unfolding from_parts
-of_parts r = refl
-
-same_reference : (r q : Reference) → r.flight ≡ q.flight → r.manager ≡ q.manager → r.version ≡ q.version → r.state ≡ q.state → r.ovn ≡ q.ovn → r.start ≡ q.start → r.end ≡ q.end → r.base ≡ q.base → r.ticket ≡ q.ticket → r ≡ q
-same_reference r q a b c d e f g h i = sym (of_parts r) ∙ (same a b c d e f g h i ∙ of_parts q)
-  where
-    same : r.flight ≡ q.flight → r.manager ≡ q.manager → r.version ≡ q.version → r.state ≡ q.state → r.ovn ≡ q.ovn → r.start ≡ q.start → r.end ≡ q.end → r.base ≡ q.base → r.ticket ≡ q.ticket
-        → from_parts r.flight r.manager r.version r.state r.ovn r.start r.end r.base r.ticket ≡ from_parts q.flight q.manager q.version q.state q.ovn q.start q.end q.base q.ticket
-    same a b c d e f g h i = cc
 
 no_wish : (a : Attempted) (owner : Owner) (opening : Opening) (trial : Trial) (wish : Wish) → wish ≡ End → by_wish owner opening trial wish ≡ Some a → ⊥
 no_wish a owner opening trial (Put to priority rounds proposals) e h = cc

@@ -2,12 +2,15 @@ pub mod Books
 pub mod Lookups
 pub mod Facts
 pub mod Grows
+pub mod Tickets
+pub mod References
 pub mod Parts
 pub mod Clear
 pub mod Jobs
 pub mod Ranks
 pub mod Replies
 pub mod Calls
+pub mod Sendings
 pub mod Acts
 pub mod Start
 pub mod Runs

@@ -4,5 +4,6 @@ pub mod Free
 pub mod Refused
 pub mod Suppliers
 pub mod Claims
+pub mod Invariants
 pub mod Worked
 pub mod Contested
