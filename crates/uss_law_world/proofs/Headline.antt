@@ -190,7 +190,7 @@ module _ (table : List ℕ) (owners : List Owner) (w : World) (names : AreSuppli
       ]
 
   -- a made pair, told by its landing
-  pair_is_made : (p : OperationalIntent) → IsPairLanded w p → IsMade w p
+  pub pair_is_made : (p : OperationalIntent) → IsPairLanded w p → IsMade w p
   pair_is_made p m =
       let f = j.landings m.landing.landing m.landing.landed in
       let manager : m.landing.landing.manager ≡ m.attempt.manager = m.landing.manager ∙ sym (attempt_manager table owners w names j m.s m.attempt.tag m.attempt m.found) in

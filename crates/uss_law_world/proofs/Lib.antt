@@ -16,6 +16,8 @@ pub mod Start
 pub mod Runs
 pub mod Answers
 pub mod Headline
+pub mod Posts
+pub mod Invariants
 pub mod Second
 pub mod WorkedRuns
 pub mod Product

@@ -31,6 +31,8 @@ ghost use Rattle.uss_law_world.specs.Free.{AreSuppliers, IsAllowed, IsFree};
 ghost use Rattle.uss_law_world.specs.Refused.{step_refusal};
 ghost use Rattle.uss_law_world.specs.Worked.{said_in, replies_in, saying, found_again, found_again_replies, cancelled_early, cancelled_early_replies, second, both_put, both_put_replies};
 ghost use Rattle.uss_law_world.specs.Contested.{given_up, given_up_replies, given_up_sayings};
+ghost use Rattle.uss_law_dss.specs.Orderly.{IsOrderly};
+ghost use Rattle.uss_law_world.specs.Invariants.{BooksAreLegal, EachCallWasDue, EachLandingIsTried, RepliesAreSo, KeysAreClear};
 ghost use Rattle.uss_law_world.specs.Claims.{EachIsIntended, NoneForbidden, EachAtMostOnce, FinalAnswersAreTrue, LandingsAreClear, RefusalsAreSettled, EachPairIsMade, OpenLandingsStay, OpenLandingsAreGot, BooksAgree};
 
 /// The headline, first part: after every free list of moves no two recorded intents, both Accepted or Activated, of one priority at which
@@ -78,9 +80,38 @@ pub fn books_agree_with_the_service()
     ensures { (table : List ℕ) (owners : List Owner) (moves : List Move) → AreSuppliers table owners → IsFree (start owners) moves → BooksAgree (run (start owners) moves) }
 {}
 
-/// Each pair that a supplier holds, heard, serves or notes is an attempt of some supplier as it landed.
+/// Each pair that a supplier holds, heard, says, serves or notes is an attempt of some supplier as it landed.
 pub fn pairs_are_made()
     ensures { (table : List ℕ) (owners : List Owner) (moves : List Move) → AreSuppliers table owners → IsFree (start owners) moves → EachPairIsMade (run (start owners) moves) }
+{}
+
+/// Each supplier's book is legal, and each call of the discovery service that was ever sent was due: at a beginning of its sender's book
+/// the duties allow it.
+pub fn books_are_legal_and_calls_were_due()
+    ensures legal { (table : List ℕ) (owners : List Owner) (moves : List Move) → AreSuppliers table owners → IsFree (start owners) moves → BooksAreLegal owners (run (start owners) moves) }
+    ensures due { (table : List ℕ) (owners : List Owner) (moves : List Move) → AreSuppliers table owners → IsFree (start owners) moves → EachCallWasDue (run (start owners) moves) }
+{}
+
+/// The discovery service's state is orderly: a recorded reference is its flight's last landing, and its ticket is there and its manager's.
+/// And each landing has exactly one attempt, and has its flight, previous OVN and ticket.
+pub fn landings_are_of_attempts()
+    ensures orderly { (table : List ℕ) (owners : List Owner) (moves : List Move) → AreSuppliers table owners → IsFree (start owners) moves → IsOrderly (run (start owners) moves).service }
+    ensures tried { (table : List ℕ) (owners : List Owner) (moves : List Move) → AreSuppliers table owners → IsFree (start owners) moves → EachLandingIsTried (run (start owners) moves) }
+{}
+
+/// What a reply of the discovery service showed is so, and stays so after every further list of moves: a reference that is shown with its
+/// OVN is an attempt as it landed, a ticket that was made is there or was removed, and what was removed is retired.
+pub fn what_replies_showed_stays_so()
+    ensures now { (table : List ℕ) (owners : List Owner) (moves : List Move) → AreSuppliers table owners → IsFree (start owners) moves
+        → RepliesAreSo (run (start owners) moves) (run (start owners) moves) }
+    ensures later { (table : List ℕ) (owners : List Owner) (moves more : List Move) → AreSuppliers table owners → IsFree (start owners) (moves ++ more)
+        → RepliesAreSo (run (start owners) moves) (run (start owners) (moves ++ more)) }
+{}
+
+/// Each OVN of the key of an attempt into Accepted or Activated is that of a landing, and nothing of that landing's attempt stands against
+/// this one, which takes the place of the landing that its previous OVN names.
+pub fn keys_are_clear()
+    ensures { (table : List ℕ) (owners : List Owner) (moves : List Move) → AreSuppliers table owners → IsFree (start owners) moves → KeysAreClear table (run (start owners) moves) }
 {}
 
 /// A worked run: the supplier stops before its Put leaves, and the reply that the Put landed is lost; the supplier finds its landing
