@@ -18,11 +18,13 @@ use Rattle.uss_law_world.specs.World.Post.{Replied}
 use Rattle.uss_law_world.specs.Moves.{Move, run}
 use Rattle.uss_law_world.specs.Free.{AreSuppliers, IsFree}
 use Rattle.uss_law_world.specs.Claims.{IsMade}
-use Rattle.uss_law_world.specs.Invariants.{BooksAreLegal, EachCallWasDue, IsTriedAs, EachLandingIsTried, IsSo, RepliesAreSo, IsClearOfLanding, KeysAreClear}
+use Rattle.uss_law_world.specs.Invariants.{BooksAreLegal, EachCallWasDue, IsTriedAs, EachLandingIsTried, IsSo, RepliesAreSo, IsClearOfLanding, KeysAreClear, OpenJobsAgree, JobsLandWhatTheyHold}
 use Rattle.uss_law_world.proofs.Facts.{IsPairLanded, RefusedShows, ReplyShows, Facts}
 use Rattle.uss_law_world.proofs.Parts.{attempt_manager, attempt_tag, one_attempt}
 use Rattle.uss_law_world.proofs.Headline.{pair_is_made}
 use Rattle.uss_law_world.proofs.Posts.{run_sends}
+use Rattle.uss_law_world.proofs.OpenJobs.{open_jobs_agree}
+use Rattle.uss_law_world.proofs.ClosedJobs.{jobs_land_what_they_hold}
 use Rattle.uss_law_world.proofs.Runs.{reached_facts, run_append}
 
 module _ (table : List ℕ) (owners : List Owner) (w : World) (names : AreSuppliers table owners) (j : Facts table owners w) where
@@ -100,6 +102,12 @@ module _ (table : List ℕ) (owners : List Owner) (names : AreSuppliers table ow
 
   pub keys_after : KeysAreClear table w
   keys_after = keys_are_clear table owners w names (reached_facts table owners names ms free)
+
+  pub open_jobs_after : OpenJobsAgree w
+  open_jobs_after = open_jobs_agree table owners w names (reached_facts table owners names ms free)
+
+  pub jobs_land_after : JobsLandWhatTheyHold w
+  jobs_land_after = jobs_land_what_they_hold table owners w names (reached_facts table owners names ms free)
 
 -- and what was shown stays so
 pub so_ever : (table : List ℕ) (owners : List Owner) → AreSuppliers table owners → (ms more : List Move) → IsFree (start owners) (ms ++ more) → RepliesAreSo (run (start owners) ms) (run (start owners) (ms ++ more))

@@ -17,6 +17,8 @@ pub mod Runs
 pub mod Answers
 pub mod Headline
 pub mod Posts
+pub mod OpenJobs
+pub mod ClosedJobs
 pub mod Invariants
 pub mod Second
 pub mod WorkedRuns

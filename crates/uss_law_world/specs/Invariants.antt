@@ -156,12 +156,12 @@ abbrev pub IsUnrecorded : World → ℕ → ℕ → Type 0
 IsUnrecorded w s flight = (r : Recorded) → Has w.service.references r → r.reference.flight ≡ flight_number s flight → ⊥
 
 -- what is recorded of the flight is as it was before the job, which has no landing
-pub record IsUntouched (w : World) (s : ℕ) (o : Opening) : Type 0 where
+pub record IsAsBefore (w : World) (s : ℕ) (o : Opening) : Type 0 where
   pub nothing : NothingLanded w s o.job
   pub held : HoldsWhatIsRecorded w s o.ask.flight
 
 -- what is recorded of the flight is a landing of the job, which took the place of the flight's base and cites the job's ticket
-pub record IsLanded (w : World) (s : ℕ) (o : Opening) : Type 0 where
+pub record IsByTheJob (w : World) (s : ℕ) (o : Opening) : Type 0 where
   pub landing : Landing
   pub of_job : IsLandingOf w s o.job landing
   pub base : landing.previous ≡ base_of o.ask.flight (book_of s w)
@@ -175,7 +175,7 @@ pub record OpenJobsAgree (w : World) : Type 0 where
   -- while a job is open that is to record something, its flight isn't retired, and what is recorded of it is what was before, or the job's
   -- landing
   pub puts : (s job : ℕ) (o : Opening) → is_open job (book_of s w) ≡ true → opening_of job (book_of s w) ≡ Some o → is_put o.ask.wish ≡ true
-      → IsUnretired w s o.ask.flight × (IsUntouched w s o ⊎ IsLanded w s o)
+      → IsUnretired w s o.ask.flight × (IsAsBefore w s o ⊎ IsByTheJob w s o)
   -- while one is open that is to end its flight, what is recorded of that is as it was before, or the flight is retired
   pub ends : (s job : ℕ) (o : Opening) → is_open job (book_of s w) ≡ true → opening_of job (book_of s w) ≡ Some o → o.ask.wish ≡ End
       → (IsUnretired w s o.ask.flight × HoldsWhatIsRecorded w s o.ask.flight) ⊎ (IsRetired w s o.ask.flight × IsUnrecorded w s o.ask.flight)

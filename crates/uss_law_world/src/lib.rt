@@ -32,7 +32,7 @@ ghost use Rattle.uss_law_world.specs.Refused.{step_refusal};
 ghost use Rattle.uss_law_world.specs.Worked.{said_in, replies_in, saying, found_again, found_again_replies, cancelled_early, cancelled_early_replies, second, both_put, both_put_replies};
 ghost use Rattle.uss_law_world.specs.Contested.{given_up, given_up_replies, given_up_sayings};
 ghost use Rattle.uss_law_dss.specs.Orderly.{IsOrderly};
-ghost use Rattle.uss_law_world.specs.Invariants.{BooksAreLegal, EachCallWasDue, EachLandingIsTried, RepliesAreSo, KeysAreClear};
+ghost use Rattle.uss_law_world.specs.Invariants.{BooksAreLegal, EachCallWasDue, EachLandingIsTried, RepliesAreSo, KeysAreClear, OpenJobsAgree, JobsLandWhatTheyHold};
 ghost use Rattle.uss_law_world.specs.Claims.{EachIsIntended, NoneForbidden, EachAtMostOnce, FinalAnswersAreTrue, LandingsAreClear, RefusalsAreSettled, EachPairIsMade, OpenLandingsStay, OpenLandingsAreGot, BooksAgree};
 
 /// The headline, first part: after every free list of moves no two recorded intents, both Accepted or Activated, of one priority at which
@@ -112,6 +112,18 @@ pub fn what_replies_showed_stays_so()
 /// this one, which takes the place of the landing that its previous OVN names.
 pub fn keys_are_clear()
     ensures { (table : List ℕ) (owners : List Owner) (moves : List Move) → AreSuppliers table owners → IsFree (start owners) moves → KeysAreClear table (run (start owners) moves) }
+{}
+
+/// While a job is open that is to record something, its flight isn't retired, and what is recorded of that is what its supplier holds, or the
+/// job's landing. While one is open that is to end its flight, what is recorded is what is held, or the flight is retired.
+pub fn open_jobs_agree_with_the_service()
+    ensures { (table : List ℕ) (owners : List Owner) (moves : List Move) → AreSuppliers table owners → IsFree (start owners) moves → OpenJobsAgree (run (start owners) moves) }
+{}
+
+/// What a closed job recorded is its one landing. A job that ended without a record has no landing, and its ticket is retired where it made
+/// an attempt; and an open job whose ticket is retired has no landing.
+pub fn jobs_land_what_they_hold()
+    ensures { (table : List ℕ) (owners : List Owner) (moves : List Move) → AreSuppliers table owners → IsFree (start owners) moves → JobsLandWhatTheyHold (run (start owners) moves) }
 {}
 
 /// A worked run: the supplier stops before its Put leaves, and the reply that the Put landed is lost; the supplier finds its landing
