@@ -62,6 +62,7 @@ use Rattle.uss_law_world.specs.Claims.{tag_in}
 use Rattle.uss_law_world.proofs.Books.{based}
 use Rattle.uss_law_world.proofs.Lookups.{at_each, same_supplier}
 use Rattle.uss_law_world.specs.Invariants.{HasLegalBook, WasDue, ShowsLanding, IsRemovedBy}
+use Rattle.uss_law_world.proofs.Answering.{says}
 use Rattle.uss_law_world.proofs.Sendings.{sent_call, sent_reply, sent_answer, sent_peer, answered, served_said}
 use Rattle.uss_law_world.proofs.Facts.{HasLanding, IsPairLanded, CallFrom, ReplyShows, IsClearOfPair, IsFlightRetired, IsUntried, EndingShows, IsByHolding, IsByClosing, SaidIsKept, Facts}
 use Rattle.uss_law_world.proofs.Grows.{Grows, News as Changes, kept, opening, made, has_landing, entered_still}
@@ -520,68 +521,10 @@ module _ (table : List ℕ) (owners : List Owner) (w : World) (names : AreSuppli
       ]
 
   -- what is said
-  keeps_answer : (o : Opening) (answer : Answer) → kept_answer m.acts.owner o after ≡ Some answer → IsByHolding after s o answer ⊎ IsByClosing after s o answer
-  unfolding kept_answer holding_of ending_of
-  keeps_answer o answer h = go (holding_of o.job after) refl (ending_of o.job after) refl (subst (λ n. by_close after (flight_number n o.ask.flight) (holding_of o.job after) (ending_of o.job after) ≡ Some answer) number_is h)
-    where
-      at_trial : (k : Holding) → Has (holdings after) k → k.job ≡ o.job → (t : Option Trial) → trial_of k.tag after ≡ t → by_trial (flight_number s o.ask.flight) k t ≡ Some answer → IsByHolding after s o answer
-      at_trial k i e None q f = cc
-      at_trial k i e (Some t) q f = record { holding = k; trial = t; entered = i; job = e; tried = q; is = f }
-
-      go : (x : Option Holding) → holding_of o.job after ≡ x → (y : Option Closing) → ending_of o.job after ≡ y → by_close after (flight_number s o.ask.flight) x y ≡ Some answer
-          → IsByHolding after s o answer ⊎ IsByClosing after s o answer
-      go (Some k) e y f q =
-          let i = find_has (λ (z : Holding). z.job == o.job) (holdings after) k e in
-          inl (at_trial k i.0 (same_number k.job o.job i.1) (trial_of k.tag after) refl q)
-      go None e (Some d) f q =
-          let i = find_has (λ (z : Closing). z.job == o.job) (endings after) d f in
-          inr (record { closing = d; entered = i.0; job = same_number d.job o.job i.1; is = some_same (by_end (flight_number s o.ask.flight) d.end) answer q })
-      go None e None f q = cc
-
-  -- the opening that an event names
-  record IsNamed (flight number : ℕ) (o : Opening) : Type 0 where
-    there : Has (openings after) o
-    flight_is : o.ask.flight ≡ flight
-    number_is : o.ask.number ≡ number
-
-  requested : (flight number : ℕ) (o : Opening) → job_of_request flight number after ≡ Some o → IsNamed flight number o
-  unfolding job_of_request
-  requested flight number o h =
-      let f = find_has (λ (z : Opening). (z.ask.flight == flight) && (z.ask.number == number)) (openings after) o h in
-      let b = both (o.ask.flight == flight) (o.ask.number == number) f.1 in
-      record { there = f.0; flight_is = same_number o.ask.flight flight b.0; number_is = same_number o.ask.number number b.1 }
-
-  opened_as : (job : ℕ) (o : Opening) → opening_of job after ≡ Some o → IsNamed (request_of (opening_of job after)).0 (request_of (opening_of job after)).1 o
-  opened_as job o h =
-      let i = opening_has after job o h in
-      let e : request_of (opening_of job after) ≡ (o.ask.flight, o.ask.number) = ap request_of h in
-      record { there = i.0; flight_is = ap (λ (z : ℕ × ℕ). z.0) (sym e); number_is = ap (λ (z : ℕ × ℕ). z.1) (sym e) }
-
-  named : (event : Event) (o : Opening) → job_named event after ≡ Some o → IsNamed (request_named event after).0 (request_named event after).1 o
-  named (Events.Ask ask) o h = requested ask.flight ask.number o h
-  named (Events.Cancel flight number) o h = requested flight number o h
-  named (Events.Position ask) o h = requested ask.flight ask.number o h
-  named (Events.Sweep skip) o h = cc
-  named (Events.Dss call reply) o h = opened_as call.job o h
-  named (Events.Peer call reply) o h = opened_as (job_of_call call) o h
-  named (Events.Failed job) o h = opened_as job o h
-  named (Events.Details client flight) o h = cc
-  named (Events.Notified client note) o h = cc
-
-  says : (said : Said) → FinalIsKept m.acts.owner after a.event said → SaidIsKept after s (request_named a.event after).0 (request_named a.event after).1 said
-  says (Says.Answer answer) f = λ final. (let k = f final in let n = named a.event k.opening k.named in record {
-    opening = k.opening;
-    opened = n.there;
-    flight_is = n.flight_is;
-    number_is = n.number_is;
-    keeps = keeps_answer k.opening answer k.kept;
-  })
-  says _ f = tt
-
   new_saying : (x : Saying) → saying_of a c after ≡ x → SaidIsKept (book_of x.supplier v) x.supplier x.flight x.number x.said
   new_saying x e =
       subst (λ (z : Saying). SaidIsKept (book_of z.supplier v) z.supplier z.flight z.number z.said) e
-      (subst (λ b. SaidIsKept b s (request_named a.event after).0 (request_named a.event after).1 c.said) (sym after_is) (says c.said m.acts.final))
+      (subst (λ b. SaidIsKept b s (request_named a.event after).0 (request_named a.event after).1 c.said) (sym after_is) (says m.acts.owner s number_is after a.event c.said m.acts.final))
 
   sound : (k : ℕ) (x : Supplier) → supplier_in k v.suppliers ≡ Some x → HasLegalBook owners x
   sound k = at_each s (stepped c) w.suppliers own.0 (λ x. refl) st.is k (λ o. (x : Supplier) → o ≡ Some x → HasLegalBook owners x) (λ e x f. here x f) (j.suppliers k)

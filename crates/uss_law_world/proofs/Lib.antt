@@ -11,6 +11,7 @@ pub mod Ranks
 pub mod Replies
 pub mod Calls
 pub mod Sendings
+pub mod Answering
 pub mod Acts
 pub mod Start
 pub mod Runs

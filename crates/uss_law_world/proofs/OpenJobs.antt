@@ -16,15 +16,16 @@ use Rattle.uss_law_dss.proofs.Tests.{same_number, equal_number, not_both, some_s
 use Rattle.uss_law_dss.proofs.History.{last_has}
 use Rattle.uss_law_dss.proofs.EachOrderly.{one_landing}
 use Rattle.uss_law_book.specs.Lists.{Opening, openings}
-use Rattle.uss_law_book.specs.Readings.{opening_of, is_open, is_closed, is_put, has_ended}
+use Rattle.uss_law_book.specs.Readings.{opening_of, open_job_of, is_open, is_closed, is_put, has_ended}
 use Rattle.uss_law_book.specs.Orderly.{IsOrderly}
 use Rattle.uss_law_book.proofs.Finds.{find_found}
 use Rattle.uss_law_book.proofs.Kept.{opening_has, open_parts}
+use Rattle.uss_law_book.proofs.Held.{open_job_is_found}
 use Rattle.uss_law_book.proofs.EachOrderly.{legal_is_orderly}
 use Rattle.uss_law_world.specs.World.{World, book_of}
 use Rattle.uss_law_world.specs.Free.{AreSuppliers}
 use Rattle.uss_law_world.specs.Claims.{IsLandingOf, landings_of, NothingLanded, HoldsWhatIsRecorded}
-use Rattle.uss_law_world.specs.Invariants.{IsRetired, IsUnretired, IsUnrecorded, IsAsBefore, IsByTheJob, OpenJobsAgree}
+use Rattle.uss_law_world.specs.Invariants.{IsRetired, IsUnretired, IsUnrecorded, IsAsBefore, IsByTheJob, IsBeingEnded, OpenJobsAgree}
 use Rattle.uss_law_world.proofs.Books.{BookFacts, legal_facts, alive}
 use Rattle.uss_law_world.proofs.Facts.{Facts}
 use Rattle.uss_law_world.proofs.Jobs.{by_opening, previous_is, ticket_is, flight_is, ticket_of_landing}
@@ -129,8 +130,22 @@ module _ (table : List ℕ) (owners : List Owner) (w : World) (names : AreSuppli
       record {
         puts = λ s job o open_ opened put. (let k = parts_of s job o open_ opened in put_agrees s o k.0 k.1 k.3 k.4 k.2 put);
         ends = λ s job o open_ opened end. (let k = parts_of s job o open_ opened in end_agrees s o k.0 k.1 k.3 k.4 end);
+        retired = retired_so;
       }
     where
+      retired_so : (s flight : ℕ) → flight < 2 ^ 64 → IsRetired w s flight → (has_ended flight (book_of s w) ≡ true) ⊎ IsBeingEnded (book_of s w) flight
+      retired_so s flight small gone = go (ended_here table owners w names j s flight small gone)
+        where
+          go : (q : Opening) × Has (openings (book_of s w)) q × (q.ask.wish ≡ End) × (q.ask.flight ≡ flight) → (has_ended flight (book_of s w) ≡ true) ⊎ IsBeingEnded (book_of s w) flight
+          go x = decide (is_closed x.0.job (book_of s w)) refl
+            where
+              decide : (y : Bool) → is_closed x.0.job (book_of s w) ≡ y → (has_ended flight (book_of s w) ≡ true) ⊎ IsBeingEnded (book_of s w) flight
+              decide true e = inl (subst (λ z. has_ended z (book_of s w) ≡ true) x.3 (end_ends table owners w names j s x.0 x.1 x.2 e))
+              decide false e =
+                  let st = by_opening table owners w names j s x.0 x.1 in
+                  let f = open_job_is_found (book_of s w) x.0 (legal_is_orderly (book_of s w) st.1.legal) x.1 e in
+                  inr (record { opening = x.0; open_job = subst (λ z. open_job_of z (book_of s w) ≡ Some x.0) x.3 f; end = x.2 })
+
       parts_of : (s job : ℕ) (o : Opening) → is_open job (book_of s w) ≡ true → opening_of job (book_of s w) ≡ Some o
           → Has (openings (book_of s w)) o × (is_closed o.job (book_of s w) ≡ false) × (is_open o.job (book_of s w) ≡ true) × IsOrderly (book_of s w) × BookFacts (book_of s w)
       parts_of s job o open_ opened =

@@ -1,6 +1,6 @@
 -- What holds of the world after every free list of moves, beside the claims: of books and the calls that were sent, of landings, of what
 -- the discovery service replied, of keys, and of what is recorded while a job is open and after it is closed. This project's own.
-use Rattle.std.specs.Prelude.{ℕ, ◌≡◌, ◌⊎◌, true, false, List, ◌++◌, Option, Some, IfSome}
+use Rattle.std.specs.Prelude.{ℕ, ◌<◌, ◌^◌, ◌≡◌, ◌⊎◌, true, false, List, ◌++◌, Option, Some, IfSome}
 use Rattle.std.specs.Option.{option_and_then}
 use Rattle.uss_intent.specs.Identifiers.{flight_number, ticket_number}
 use Rattle.uss_intent.specs.Numbers.{is_one_of}
@@ -24,7 +24,7 @@ use Rattle.uss_event.specs.declared.calls.DssCall.{DssCall}
 use Rattle.uss_law_dss.specs.Lists.{Has}
 use Rattle.uss_law_dss.specs.Service.{recorded_of}
 use Rattle.uss_law_book.specs.Lists.{owner_of, Opening, Trial, Holding, trials, holdings}
-use Rattle.uss_law_book.specs.Readings.{opening_of, is_open, is_done, is_put, base_of}
+use Rattle.uss_law_book.specs.Readings.{opening_of, open_job_of, has_ended, is_open, is_done, is_put, base_of}
 use Rattle.uss_law_book.specs.Attempts.{Attempted, attempt_of, recorded_as}
 use Rattle.uss_law_book.specs.Legal.{IsLegal}
 use Rattle.uss_law_duty.specs.Sends.{RecordsAreDue, TicketsAreDue, RemovalsAreDue}
@@ -170,7 +170,13 @@ pub record IsByTheJob (w : World) (s : ℕ) (o : Opening) : Type 0 where
   pub ovn : recorded.reference.ovn ≡ Some landing.ovn
   pub ticket : recorded.reference.ticket ≡ ticket_number s o.job
 
--- an open job's flight at the discovery service
+-- an open job is to end the flight
+pub record IsBeingEnded (book : List Entry) (flight : ℕ) : Type 0 where
+  pub opening : Opening
+  pub open_job : open_job_of flight book ≡ Some opening
+  pub end : opening.ask.wish ≡ End
+
+-- the flights of open jobs, and those that are retired, at the discovery service
 pub record OpenJobsAgree (w : World) : Type 0 where
   -- while a job is open that is to record something, its flight isn't retired, and what is recorded of it is what was before, or the job's
   -- landing
@@ -179,6 +185,8 @@ pub record OpenJobsAgree (w : World) : Type 0 where
   -- while one is open that is to end its flight, what is recorded of that is as it was before, or the flight is retired
   pub ends : (s job : ℕ) (o : Opening) → is_open job (book_of s w) ≡ true → opening_of job (book_of s w) ≡ Some o → o.ask.wish ≡ End
       → (IsUnretired w s o.ask.flight × HoldsWhatIsRecorded w s o.ask.flight) ⊎ (IsRetired w s o.ask.flight × IsUnrecorded w s o.ask.flight)
+  -- a retired flight has ended, or an open job is to end it
+  pub retired : (s flight : ℕ) → flight < 2 ^ 64 → IsRetired w s flight → (has_ended flight (book_of s w) ≡ true) ⊎ IsBeingEnded (book_of s w) flight
 
 -- what a closed job recorded is its one landing
 pub record HasItsOneLanding (w : World) (s : ℕ) (h : Holding) : Type 0 where
