@@ -7,7 +7,7 @@ use Rattle.uss_law_dss.proofs.Lists.{has_left}
 use Rattle.uss_law_duty.specs.Duties.{Choice}
 use Rattle.uss_law_world.specs.World.{Post, World, post_at}
 use Rattle.uss_law_world.specs.World.Post.{Called, Replied, Asked, Answered}
-use Rattle.uss_law_world.specs.Moves.{Move, Arrival, arrival_by, arrival_of, arrives, brings, comes, takes, next_message, delivers_next, drains, marked_by, after_restart, after_step, stops, happens, run, fault_of}
+use Rattle.uss_law_world.specs.Moves.{Move, Arrival, arrival_by, arrival_of, arrives, brings, comes, takes, next_message, delivers_next, drains, marked_by, after_restart, after_step, stops, loses, happens, run, fault_of}
 use Rattle.uss_law_world.specs.Moves.{Move as Moves}
 
 arrives_sends : (w : World) (c : Choice) (o : Option Arrival) (p : Post) → Has w.posts p → Has (arrives w c o).posts p
@@ -51,10 +51,14 @@ stops_sends w kept sent step c None p h = h
 stops_sends w true sent step c (Some a) p h = marked_sends step (after_restart (after_step w a c _) a.supplier) p (has_left w.posts _ p h)
 stops_sends w false sent step c (Some a) p h = h
 
+loses_sends : (w : World) (k : ℕ) (o : Option Post) (p : Post) → Has w.posts p → Has (loses w k o).posts p
+loses_sends w k None p h = h
+loses_sends w k (Some x) p h = h
+
 move_sends : (w : World) (m : Move) (p : Post) → Has w.posts p → Has (happens w m).posts p
 move_sends w (Moves.Now moment) p h = h
 move_sends w (Moves.Takes step c) p h = takes_sends w step c p h
-move_sends w (Moves.Lose k) p h = h
+move_sends w (Moves.Lose k) p h = loses_sends w k (post_at k w) p h
 move_sends w (Moves.Drain cs) p h = drains_sends cs w p h
 move_sends w (Moves.Fault k c) p h = arrives_sends w c (fault_of w k) p h
 move_sends w (Moves.Restart s) p h = h
