@@ -1,5 +1,5 @@
 -- A step of a supplier that keeps its duties keeps what holds.
-use Rattle.std.proofs.Common.{ℕ, ◌≡◌, ◌⊎◌, inl, inr, ◌==◌, ◌&&◌, Bool, true, false, cond, List, [], ◌∷◌, ◌++◌, refl, ap, sym, subst, ◌∙◌, Option, Some, None, IfSome, is_some, map, unwrap_or}
+use Rattle.std.proofs.Common.{ℕ, ◌≡◌, ◌⊎◌, inl, inr, ◌==◌, Bool, true, false, cond, List, [], ◌∷◌, ◌++◌, refl, ap, sym, subst, ◌∙◌, Option, Some, None, IfSome, is_some, map, unwrap_or}
 use Rattle.std.proofs.lemmas.List.{append-nil}
 use Rattle.uss_intent.specs.Identifiers.{flight_number, ticket_number}
 use Rattle.uss_intent.specs.Tags.{tag_of}
@@ -25,19 +25,15 @@ use Rattle.uss_event.specs.declared.calls.PeerCall.{PeerCall}
 use Rattle.uss_event.specs.declared.calls.PeerCall.TheVariants as Calls
 use Rattle.uss_event.specs.declared.calls.PeerReply.{PeerReply}
 use Rattle.uss_event.specs.declared.calls.PeerReply.TheVariants as Peers
-use Rattle.uss_event.specs.declared.calls.Outgoing.{Outgoing}
-use Rattle.uss_event.specs.declared.calls.Outgoing.TheVariants as Goes
 use Rattle.uss_event.specs.declared.calls.Note.{Note}
-use Rattle.uss_event.specs.declared.events.Answer.{Answer}
-use Rattle.uss_event.specs.declared.events.Said.{Said}
 use Rattle.uss_event.specs.declared.events.Said.TheVariants as Says
 use Rattle.uss_event.specs.declared.events.Event.{Event}
 use Rattle.uss_event.specs.declared.events.Event.TheVariants as Events
 use Rattle.uss_law_dss.specs.Lists.{Has}
-use Rattle.uss_law_dss.proofs.Lists.{has_append, has_push, has_map, find_has, list_any_has, has_filtered}
-use Rattle.uss_law_dss.proofs.Tests.{some_same, same_number, equal_number, both, either}
+use Rattle.uss_law_dss.proofs.Lists.{has_append, has_push, has_map, list_any_has, has_filtered}
+use Rattle.uss_law_dss.proofs.Tests.{some_same, same_number, equal_number, either}
 use Rattle.uss_law_book.specs.Lists.{owner_of, Opening, Trial, Holding, Closing, openings, trials, holdings, endings}
-use Rattle.uss_law_book.specs.Readings.{opening_of, trial_of, holding_of, ending_of, holding, is_held, is_done, is_closed, is_ended, decision_of, trials_of, base_of}
+use Rattle.uss_law_book.specs.Readings.{holding, is_held, is_done, is_closed, is_ended, decision_of, trials_of, base_of}
 use Rattle.uss_law_book.specs.Attempts.{Attempted, attempt_of, held, held_by, recorded_as}
 use Rattle.uss_law_book.specs.Legal.{IsLegal, IsDue, MayFollow, EndsFlight, EndsWish}
 use Rattle.uss_law_book.specs.Orderly.{IsOrderly}
@@ -48,23 +44,23 @@ use Rattle.uss_law_book.proofs.Held.{held_of, base_is}
 use Rattle.uss_law_book.proofs.EachOrderly.{legal_is_orderly}
 use Rattle.uss_law_duty.specs.Heard.{News, brought, by_reply, by_pair}
 use Rattle.uss_law_duty.specs.Heard.News.{Heard}
-use Rattle.uss_law_duty.specs.Answers.{flight_of, by_trial, by_end, by_close, kept_answer, job_of_request, job_of_call, job_named}
+use Rattle.uss_law_duty.specs.Answers.{flight_of}
 use Rattle.uss_law_duty.specs.Sends.{MayLose, RecordsAreDue, TicketsAreDue, RemovalsAreDue, IsHeldPair, NotesAreHeld, OfDss, OfPeer, ticket_remove}
 use Rattle.uss_law_duty.specs.Entered.{candidate_of, Answers, IsKnown, KeyIsClear, shown_tag, ShowsRecord, HoldsByReply, HeldIsShown, IsRemoved, IsTicketRemoved, EndsByReply, LosesByReply, EndsAs, RemovalIsShown}
-use Rattle.uss_law_duty.specs.Sayings.{PairIsHeld, FinalIsKept}
+use Rattle.uss_law_duty.specs.Sayings.{PairIsHeld}
 use Rattle.uss_law_duty.specs.Duties.{book_after, MayStep, Choice, clamped}
 use Rattle.uss_law_duty.proofs.Stays.{step_is_legal}
 use Rattle.uss_law_world.specs.World.{Supplier, Post, Saying, World, supplier_in, book_in, heard_in, name_in, book_of, heard_of, name_of, post_of}
 use Rattle.uss_law_world.specs.World.Post.{Called, Replied, Asked, Answered}
-use Rattle.uss_law_world.specs.Moves.{Asker, Arrival, pair_reply, reply_by, answer_with, answer_to, posts_of, request_of, request_named, saying_of, stepped, after_step}
+use Rattle.uss_law_world.specs.Moves.{Arrival, answer_to, posts_of, request_named, saying_of, stepped, after_step}
 use Rattle.uss_law_world.specs.Free.{AreSuppliers}
 use Rattle.uss_law_world.specs.Claims.{tag_in}
 use Rattle.uss_law_world.proofs.Books.{based}
 use Rattle.uss_law_world.proofs.Lookups.{at_each, same_supplier}
-use Rattle.uss_law_world.specs.Invariants.{HasLegalBook, WasDue, ShowsLanding, IsRemovedBy}
+use Rattle.uss_law_world.specs.Invariants.{HasLegalBook, WasDue, ShowsLanding, IsRemovedOf}
 use Rattle.uss_law_world.proofs.Answering.{says}
 use Rattle.uss_law_world.proofs.Sendings.{sent_call, sent_reply, sent_answer, sent_peer, answered, served_said}
-use Rattle.uss_law_world.proofs.Facts.{HasLanding, IsPairLanded, CallFrom, ReplyShows, IsClearOfPair, IsFlightRetired, IsUntried, EndingShows, IsByHolding, IsByClosing, SaidIsKept, Facts}
+use Rattle.uss_law_world.proofs.Facts.{HasLanding, IsPairLanded, CallFrom, ReplyShows, IsClearOfPair, IsFlightRetired, IsUntried, EndingShows, SaidIsKept, Facts}
 use Rattle.uss_law_world.proofs.Grows.{Grows, News as Changes, kept, opening, made, has_landing, entered_still}
 use Rattle.uss_law_world.proofs.Parts.{Stands, stands, by_the_wish}
 
@@ -446,12 +442,12 @@ module _ (table : List ℕ) (owners : List Owner) (w : World) (names : AreSuppli
           ]
 
   -- the end of a job
-  retired_by : (job : ℕ) (ask : DssAsk) (reply : DssReply) → ReplyShows w s job ask reply → IsRemoved reply → IsRemovedBy w ask
-  retired_by job ask (Replies.Removed r subscribers) x h = x
+  retired_by : (job : ℕ) (ask : DssAsk) (reply : DssReply) → ReplyShows w s job ask reply → IsRemoved reply → IsRemovedOf w ask
+  retired_by job ask (Replies.Removed r subscribers) x h = x.1
   retired_by job ask (Replies.Refused refusal) x h = x.retired h
   retired_by job ask _ x h = absurd h
 
-  ticket_retired_by : (job : ℕ) (ask : DssAsk) (reply : DssReply) → ReplyShows w s job ask reply → IsTicketRemoved reply → IsRemovedBy w ask
+  ticket_retired_by : (job : ℕ) (ask : DssAsk) (reply : DssReply) → ReplyShows w s job ask reply → IsTicketRemoved reply → IsRemovedOf w ask
   ticket_retired_by job ask (Replies.TicketRemoved t) x h = x
   ticket_retired_by job ask (Replies.Refused refusal) x h = x.retired h
   ticket_retired_by job ask _ x h = absurd h
@@ -460,7 +456,7 @@ module _ (table : List ℕ) (owners : List Owner) (w : World) (names : AreSuppli
   end_flight job h =
       let q = h.its_call in
       let x = retired_by job h.ask h.reply (came_reply job h.ask h.reply h.answers) h.removed in
-      let y : is_one_of (flight_number m.acts.owner.number q.opening.ask.flight) w.service.retired_flights ≡ true = subst (IsRemovedBy w) q.is x in
+      let y : is_one_of (flight_number m.acts.owner.number q.opening.ask.flight) w.service.retired_flights ≡ true = subst (IsRemovedOf w) q.is x in
       let i = opening_has book job q.opening q.opened in
       record {
         opening = q.opening;

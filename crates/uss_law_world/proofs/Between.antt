@@ -1,13 +1,10 @@
 -- Between the jobs of a flight, what is recorded of it is what its supplier holds.
 use Rattle.std.proofs.Common.{ℕ, ◌<◌, ◌^◌, ◌==◌, ◌≡◌, inl, inr, Bool, true, false, List, refl, ap, sym, subst, ◌∙◌, arith, Option, Some, None}
-use Rattle.std.specs.Prelude.{ℤ}
 use Rattle.uss_vol4.specs.Volume.{Volume4D}
 use Rattle.uss_vol4.specs.Bounding.{bounding_box}
 use Rattle.uss_intent.specs.Identifiers.{flight_number}
 use Rattle.uss_intent.specs.declared.records.Recorded.{Recorded}
-use Rattle.uss_intent.specs.declared.records.Reference.{Reference}
 use Rattle.uss_intent.specs.declared.records.Landing.{Landing}
-use Rattle.uss_intent.specs.declared.records.State.{State}
 use Rattle.uss_intent.specs.Numbers.{is_one_of}
 use Rattle.uss_event.specs.Pairs.{OperationalIntent}
 use Rattle.uss_event.specs.declared.asks.Wish.{Wish}

@@ -1,14 +1,11 @@
 -- A call that the discovery service takes keeps what holds.
 use Rattle.std.proofs.Common.{ℕ, ◌<◌, ◌≡◌, ◌⊎◌, inl, inr, ◌==◌, ◌^◌, ◌||◌, Bool, true, false, not, List, [], ◌∷◌, ◌++◌, refl, ap, sym, subst, ◌∙◌, Option, Some, None, unwrap_or, arith}
-use Rattle.std.specs.Prelude.{count_by}
 use Rattle.std.proofs.lemmas.List.{append-nil}
 use Rattle.uss_vol4.specs.Volume.{Volume4D}
-use Rattle.uss_vol4.specs.Bounding.{bounding_box}
 use Rattle.uss_intent.specs.Identifiers.{ticket_number}
 use Rattle.uss_intent.specs.Tags.{tag_of}
 use Rattle.uss_intent.specs.Same.{same_text}
 use Rattle.uss_intent.specs.declared.records.Recorded.{Recorded}
-use Rattle.uss_intent.specs.declared.records.Reference.{Reference}
 use Rattle.uss_intent.specs.declared.records.Landing.{Landing}
 use Rattle.uss_intent.specs.declared.records.State.{State}
 use Rattle.uss_intent.specs.declared.records.Ticket.{Ticket}
@@ -28,35 +25,33 @@ use Rattle.uss_law_dss.specs.Refusals.{is_cited, refusal_of}
 use Rattle.uss_law_dss.specs.Step.{put_recorded, landed, landing_of, new_ticket, after_put, after_remove, after_ticket_put, after_ticket_remove, service_step}
 use Rattle.uss_law_dss.specs.Effects.{Effect, Lands, Stays, TellsNoChange}
 use Rattle.uss_law_dss.specs.Effects.Effect.{lands, removes, makes_ticket, takes_ticket_out, stays}
-use Rattle.uss_law_dss.specs.Orderly.{IsOrderly, IsAsLanded, last_of}
+use Rattle.uss_law_dss.specs.Orderly.{IsOrderly, IsAsLanded}
 use Rattle.uss_law_dss.proofs.Lists.{has_push, has_left, has_last, has_filter, has_filtered, find_has, list_any_has, find_none}
-use Rattle.uss_law_dss.proofs.Tests.{either, neither, same_number, equal_number, other_number, same_bytes, some_same, not_both}
-use Rattle.uss_law_dss.proofs.History.{last_has}
+use Rattle.uss_law_dss.proofs.Tests.{either, neither, same_number, equal_number, other_number, equal_bytes, some_same, not_both}
 use Rattle.uss_law_dss.proofs.Placed.{put_there, put_keeps, put_others}
 use Rattle.uss_law_dss.proofs.Retired.{pushed_in, pushed_before}
 use Rattle.uss_law_dss.proofs.EachEffect.{effect}
 use Rattle.uss_law_dss.proofs.EachOrderly.{step_orderly}
 use Rattle.uss_law_book.specs.Readings.{is_closed}
-use Rattle.uss_law_book.specs.Lists.{owner_of}
 use Rattle.uss_law_book.specs.Attempts.{Attempted, attempt_of, extents_of, put_of, recorded_as}
-use Rattle.uss_law_book.proofs.Attempts.{owner_kept}
 use Rattle.uss_law_world.specs.World.{Supplier, World, book_of, name_of}
 use Rattle.uss_law_world.specs.World.Post.{Called, Replied}
 use Rattle.uss_law_world.specs.Moves.{after_call}
 use Rattle.uss_law_world.specs.Free.{AreSuppliers}
-use Rattle.uss_law_world.specs.Claims.{tag_in, rank_of, IsLandingOf, is_unsettling}
-use Rattle.uss_law_world.specs.Invariants.{WasDue, ShowsLanding, IsThereOrGone, IsMadeBy, IsRemovedBy}
+use Rattle.uss_law_world.specs.Claims.{rank_of, IsLandingOf, is_unsettling}
+use Rattle.uss_law_world.specs.Invariants.{ShowsLanding, IsThereOrGone, IsMadeBy, IsRemovedOf}
 use Rattle.uss_law_world.proofs.Books.{legal_facts}
 use Rattle.uss_law_world.proofs.Lookups.{same_ticket}
 use Rattle.uss_law_world.proofs.Facts.{LandingFrom, RecordedFrom, AreApart, IsTriedPut, NamesHeld, IsEndOf, IsRemoveSent, IsToEnd, IsTicketOf, CallFrom, RefusedShows, ReplyShows, IsRecorded, IsStanding, Facts}
-use Rattle.uss_law_world.proofs.Grows.{IsTicketKept, Grows, News, kept, recorded_from, names_held, end_of, reply_shows, entered_still}
-use Rattle.uss_law_world.proofs.Parts.{Stands, stands, at, attempt_manager, attempt_ticket, base_tag, recorded_tag}
+use Rattle.uss_law_world.proofs.Grows.{IsTicketKept, Grows, News, kept, recorded_from, names_held, end_of, shows, reply_shows, entered_still}
+use Rattle.uss_law_world.proofs.Parts.{Stands, at, attempt_manager, attempt_ticket, base_tag}
 use Rattle.uss_law_world.proofs.References.{same_reference}
 use Rattle.uss_law_world.proofs.Tickets.{put_ticket_there, kept_by_put, kept_by_remove, kept_by_ticket_put, kept_by_ticket_remove, ticket_exists}
-use Rattle.uss_law_world.proofs.Jobs.{stands_by, by_opening, same_name, landing_of_recorded, settled}
-use Rattle.uss_law_world.proofs.Ranks.{rank_kept, rank_of_new, rank_of_last}
+use Rattle.uss_law_world.proofs.Jobs.{by_opening, landing_of_recorded, settled}
+use Rattle.uss_law_world.proofs.Ranks.{rank_kept, rank_of_new}
 use Rattle.uss_law_world.proofs.Clear.{not_forbidden, forbidden_sym}
-use Rattle.uss_law_world.proofs.Replies.{Tells, tells, remove_retired, ticket_remove_retired, ticket_in_use, put_exists, put_stale, one_recorded, IsOtherwise}
+use Rattle.uss_law_world.proofs.Shown.{recorded_shows, sender}
+use Rattle.uss_law_world.proofs.Replies.{Tells, tells, retired_told, missing_shown, ticket_in_use, put_exists, put_stale, one_recorded, IsOtherwise}
 
 or_first : (a : Bool) → (a || false) ≡ true → a ≡ true
 or_first true h = refl
@@ -339,7 +334,7 @@ module _ (table : List ℕ) (owners : List Owner) (w : World) (names : AreSuppli
     | inr r ↦ inr (record { recorded = r.recorded; there = stay r.recorded r.there; ovn_is = r.ovn_is })
   ]
 
-  module _ (flight : ℕ) (ovn : List ℕ) (r : Recorded) (is : call.ask ≡ Asks.Remove flight ovn) (found : recorded_of flight w.service ≡ Some r) (by_ovn : r.reference.ovn ≡ Some ovn) (sent : IsRemoveSent w s flight ovn) where
+  module _ (flight : ℕ) (ovn : List ℕ) (r : Recorded) (is : call.ask ≡ Asks.Remove flight ovn) (found : recorded_of flight w.service ≡ Some r) (by_ovn : r.reference.ovn ≡ Some ovn) (own : r.reference.manager ≡ name_of s w) (x : Supplier) (st : Stands owners w s x) (sent : IsRemoveSent w s flight ovn) where
     abbrev gone : DssReply × Service
     gone = after_remove w.service (name_of s w) r
 
@@ -364,10 +359,16 @@ module _ (table : List ℕ) (owners : List Owner) (w : World) (names : AreSuppli
             let o : ovn ≡ l.ovn = some_same ovn l.ovn (sym by_ovn ∙ (ap (λ (z : Recorded). z.reference.ovn) (sym same) ∙ q.ovn_is)) in
             inl (record { s = s; names = names_held grows_gone s l.ovn (subst (NamesHeld w s) o sent.names) })
 
-    shows_gone : IsRemovedBy (after_call w k s call gone) call.ask
-    shows_gone =
-        subst (IsRemovedBy (after_call w k s call gone)) (sym is)
-        (subst (λ n. is_one_of n (w.service.retired_flights ++ r.reference.flight ∷ []) ≡ true) (same_number r.reference.flight flight there.1) (pushed_in r.reference.flight w.service.retired_flights))
+    shows_gone : ShowsLanding (after_call w k s call gone) s r.reference × IsRemovedOf (after_call w k s call gone) call.ask
+    shows_gone = (
+      shows grows_gone s r.reference (recorded_shows table owners w names j s x st r.reference r there.0 (shown (same_text r.reference.manager (name_of s w)) refl)),
+      subst (IsRemovedOf (after_call w k s call gone)) (sym is)
+          (subst (λ n. is_one_of n (w.service.retired_flights ++ r.reference.flight ∷ []) ≡ true) (same_number r.reference.flight flight there.1) (pushed_in r.reference.flight w.service.retired_flights)),
+    )
+      where
+        shown : (y : Bool) → same_text r.reference.manager (name_of s w) ≡ y → r.reference ≡ shown_to (name_of s w) r.reference
+        shown true e = rw e refl
+        shown false e = not_both (same_text r.reference.manager (name_of s w)) (equal_bytes r.reference.manager (name_of s w) own) e
 
     retired_gone : (n : ℕ) → is_one_of n (w.service.retired_flights ++ r.reference.flight ∷ []) ≡ true → (is_one_of n w.service.retired_flights ≡ true) ⊎ IsToEnd (after_call w k s call gone) n
     retired_gone n h = go (is_one_of n w.service.retired_flights) refl
@@ -401,60 +402,9 @@ module _ (table : List ℕ) (owners : List Owner) (w : World) (names : AreSuppli
       let tickets : (n : ℕ) → is_one_of n w.service.retired_tickets ≡ true → is_one_of n (w.service.retired_tickets ++ t.id ∷ []) ≡ true = λ n h. pushed_before n t.id w.service.retired_tickets h in
       let g = call_grows w k s call out (record { landings = λ l h. h; ranks = λ flight l h. refl; flights = λ n h. h; tickets = tickets; there = kept_by_ticket_remove w.service t }) in
       let e : t.id ≡ id = same_number t.id id (find_has (λ (z : Ticket). z.id == id) w.service.tickets t found).1 in
-      let shows : IsRemovedBy (after_call w k s call out) call.ask =
-      subst (IsRemovedBy (after_call w k s call out)) (sym is) (subst (λ n. is_one_of n (w.service.retired_tickets ++ t.id ∷ []) ≡ true) e (pushed_in t.id w.service.retired_tickets)) in
+      let shows : IsRemovedOf (after_call w k s call out) call.ask =
+      subst (IsRemovedOf (after_call w k s call out)) (sym is) (subst (λ n. is_one_of n (w.service.retired_tickets ++ t.id ∷ []) ≡ true) e (pushed_in t.id w.service.retired_tickets)) in
       quiet_taken out o refl (λ q h. h) (λ n h. h) tickets (kept_by_ticket_remove w.service t) shows (still out g (λ r h. h)) (λ n h. inl h)
-
-  -- a reference that is got shows a landing of its manager
-  rank_here : (q : Recorded) → Has w.service.references q → (m : Landing) → last_of q.reference.flight w.service.landings ≡ Some m → q.reference.flight ≡ m.flight
-      → rank_of m.flight m.ovn w.service.landings ≡ count_by (λ (z : Landing). z.flight == q.reference.flight) w.service.landings
-  rank_here q h m e f =
-      let few = j.service.few_landings in
-      subst (λ n. rank_of n m.ovn w.service.landings ≡ count_by (λ (z : Landing). z.flight == q.reference.flight) w.service.landings) f
-      (rank_of_last q.reference.flight 0 w.service.landings m j.service.numbered (omega (arith, few)) e)
-
-  got_shows : (x : Supplier) → Stands owners w s x → (reply : Reference) → (q : Recorded) → Has w.service.references q → reply ≡ shown_to (name_of s w) q.reference → ShowsLanding w s reply
-  got_shows x st reply q h e = go (same_text q.reference.manager (name_of s w)) refl
-    where
-      f : RecordedFrom w q
-      f = j.recorded q h
-
-      -- what is recorded in the supplier's name is of its book
-      here : q.reference.manager ≡ name_of s w → f.s ≡ s
-      here c =
-          let p = at table owners w names j f.s f.attempt.tag f.attempt f.found in
-          same_name table owners w names j f.s s p.supplier x (stands table owners w j f.s p.supplier p.is) st
-          (sym (attempt_manager table owners w names j f.s f.attempt.tag f.attempt f.found) ∙ (sym f.manager ∙ c))
-
-      go : (y : Bool) → same_text q.reference.manager (name_of s w) ≡ y → ShowsLanding w s reply
-      go true y o n =
-          let same : reply ≡ q.reference = e ∙ rw y refl in
-          let m = j.service.landed q h in
-          let i : IsAsLanded m.0 q.reference = m.2 in
-          let c : q.reference.manager ≡ name_of s w = same_bytes q.reference.manager (name_of s w) y in
-          let ovn : q.reference.ovn ≡ Some o = ap (λ (z : Reference). z.ovn) (sym same) ∙ n in
-          let version : q.reference.version ≡ reply.version = ap (λ (z : Reference). z.version) (sym same) in
-          let tag : f.attempt.tag ≡ tag_in reply = sym (recorded_tag table owners w names j q f) ∙ ap (λ (z : Reference). tag_in z) (sym same) in
-          let found : attempt_of f.attempt.tag (book_of s w) ≡ Some f.attempt = subst (λ z. attempt_of f.attempt.tag (book_of z w) ≡ Some f.attempt) (here c) f.found in
-          record {
-            landing = m.0;
-            landed = last_has q.reference.flight w.service.landings m.0 m.1;
-            ovn_is = some_same m.0.ovn o (sym i.ovn ∙ ovn);
-            manager = sym i.manager ∙ c;
-            flight = sym i.flight ∙ ap (λ (z : Reference). z.flight) (sym same);
-            tag = i.tag ∙ ap (λ (z : Reference). tag_in z) (sym same);
-            version = rank_here q h m.0 m.1 i.flight ∙ (sym (j.service.versions q h) ∙ version);
-            attempt = f.attempt;
-            found = subst (λ z. attempt_of z (book_of s w) ≡ Some f.attempt) tag found;
-            is = same ∙ same_reference q.reference (recorded_as f.attempt o reply.version).reference f.flight f.manager version f.state ovn
-                (j.service.start q h ∙ ap (λ (z : List Volume4D). (bounding_box z).start) f.extents)
-                (j.service.end q h ∙ ap (λ (z : List Volume4D). (bounding_box z).end) f.extents)
-                f.base f.ticket;
-          }
-      go false y o n =
-          let hidden : reply.ovn ≡ None = ap (λ (z : Reference). z.ovn) e ∙ rw y refl in
-          let g : None ≡ Some o = sym hidden ∙ n in
-          cc
 
   -- a refusal by another OVN that is recorded, or since the ticket is cited
   put_settled : (flight : ℕ) (ovn : Option (List ℕ)) (extents : List Volume4D) (key : List (List ℕ)) (state : State) (base : List ℕ) (ticket : ℕ) (job : ℕ)
@@ -493,10 +443,14 @@ module _ (table : List ℕ) (owners : List Owner) (w : World) (names : AreSuppli
   refused_settles job (Asks.TicketRemove ticket version) Refuses.TicketInUse p e u = inr (ticket_settled job ticket p (ticket_in_use w.service (name_of s w) ticket version e))
   refused_settles job _ _ p e u = cc
 
-  refused_retires : (job : ℕ) (ask : DssAsk) → refusal_of w.service (name_of s w) ask ≡ Some Refuses.Retired → IsRemovedBy w ask
-  refused_retires job (Asks.Remove flight ovn) e = remove_retired w.service (name_of s w) flight ovn e
-  refused_retires job (Asks.TicketRemove ticket version) e = ticket_remove_retired w.service (name_of s w) ticket version e
-  refused_retires job _ e = tt
+  refused_retires : (ask : DssAsk) → refusal_of w.service (name_of s w) ask ≡ Some Refuses.Retired → IsRemovedOf w ask
+  refused_retires (Asks.Query area) e = tt
+  refused_retires (Asks.Get flight) e = retired_told w.service (name_of s w) (Asks.Get flight) e
+  refused_retires (Asks.Put flight ovn extents key state base ticket) e = retired_told w.service (name_of s w) (Asks.Put flight ovn extents key state base ticket) e
+  refused_retires (Asks.Remove flight ovn) e = retired_told w.service (name_of s w) (Asks.Remove flight ovn) e
+  refused_retires (Asks.TicketPut ticket area base) e = retired_told w.service (name_of s w) (Asks.TicketPut ticket area base) e
+  refused_retires (Asks.TicketGet ticket) e = retired_told w.service (name_of s w) (Asks.TicketGet ticket) e
+  refused_retires (Asks.TicketRemove ticket version) e = retired_told w.service (name_of s w) (Asks.TicketRemove ticket version) e
 
   exists_shows : (ask : DssAsk) → refusal_of w.service (name_of s w) ask ≡ Some Refuses.Exists → IsMadeBy w s ask
   exists_shows (Asks.TicketPut ticket area base) e =
@@ -509,30 +463,32 @@ module _ (table : List ℕ) (owners : List Owner) (w : World) (names : AreSuppli
   absent_unsettles (Asks.TicketRemove ticket version) u = cc
   absent_unsettles _ u = cc
 
-  refused_shows : (job : ℕ) (ask : DssAsk) (refusal : DssRefusal) → CallFrom w s job ask → (refusal_of w.service (name_of s w) ask ≡ Some refusal) ⊎ (refusal ≡ Refuses.Absent) → RefusedShows w s job ask refusal
-  refused_shows job ask refusal p (inl e) =
+  refused_shows : (x : Supplier) → Stands owners w s x → (job : ℕ) (ask : DssAsk) (refusal : DssRefusal) → CallFrom w s job ask → (refusal_of w.service (name_of s w) ask ≡ Some refusal) ⊎ (refusal ≡ Refuses.Absent) → RefusedShows w s job ask refusal
+  refused_shows x st job ask refusal p (inl e) =
       record {
         there = λ q. exists_shows ask (e ∙ ap Some q);
-        retired = λ q. refused_retires job ask (e ∙ ap Some q);
+        retired = λ q. refused_retires ask (e ∙ ap Some q);
+        missing = λ rs q r i. (let m = missing_shown w.service (name_of s w) ask rs (e ∙ ap Some q) r i in recorded_shows table owners w names j s x st r m.recorded m.there m.is);
         settled = λ u. refused_settles job ask refusal p e u;
       }
-  refused_shows job ask refusal p (inr a) =
+  refused_shows x st job ask refusal p (inr a) =
       record {
         there = λ q. (let z : Refuses.Absent ≡ Refuses.Exists = sym a ∙ q in cc);
         retired = λ q. (let z : Refuses.Absent ≡ Refuses.Retired = sym a ∙ q in cc);
+        missing = λ rs q. (let z : Refuses.Absent ≡ Refuses.MissingKey rs = sym a ∙ q in cc);
         settled = λ u. absurd (absent_unsettles ask (subst (λ z. is_unsettling ask z ≡ true) a u));
       }
 
   -- no change
   stays_shows : (x : Supplier) → Stands owners w s x → (ask : DssAsk) → CallFrom w s call.job ask → (reply : DssReply) → Tells w.service (name_of s w) ask reply → TellsNoChange reply → ReplyShows w s call.job ask reply
-  stays_shows x st ask p (Replies.Found references) t n = tt
-  stays_shows x st ask p (Replies.Got r) t n = got_shows x st r t.0 t.1 t.2
+  stays_shows x st ask p (Replies.Found references) t n = λ r i. recorded_shows table owners w names j s x st r (t r i).recorded (t r i).there (t r i).is
+  stays_shows x st ask p (Replies.Got r) t n = recorded_shows table owners w names j s x st r t.recorded t.there t.is
   stays_shows x st ask p (Replies.Landed r subscribers) t n = absurd n
   stays_shows x st ask p (Replies.Removed r subscribers) t n = absurd n
   stays_shows x st ask p (Replies.TicketMade u) t n = absurd n
   stays_shows x st ask p (Replies.TicketGot u) t n = tt
   stays_shows x st ask p (Replies.TicketRemoved u) t n = absurd n
-  stays_shows x st ask p (Replies.Refused refusal) t n = refused_shows call.job ask refusal p t
+  stays_shows x st ask p (Replies.Refused refusal) t n = refused_shows x st call.job ask refusal p t
 
   pub stays_taken : (x : Supplier) → Stands owners w s x → CallFrom w s call.job call.ask → (out : DssReply × Service) → IsOrderly out.1 → Tells w.service (name_of s w) call.ask out.0 → Stays w.service out → Taken table owners w k s call out
   stays_taken x here p out o t st =
@@ -569,7 +525,7 @@ by_effect table owners w names j k s call x here p out o t (lands l) =
     lands_taken table owners w names j k s call a q.found out is l' o
 by_effect table owners w names j k s call x here p out o t (removes l) =
     subst (λ z. Taken table owners w k s call z) (sym l.out_is)
-    (remove_taken table owners w names j k s call l.flight l.ovn l.recorded l.is l.found l.by_ovn (of_removes call.ask l.flight l.ovn w s call.job l.is p) (subst (λ (z : DssReply × Service). IsOrderly z.1) l.out_is o))
+    (remove_taken table owners w names j k s call l.flight l.ovn l.recorded l.is l.found l.by_ovn l.manager x here (of_removes call.ask l.flight l.ovn w s call.job l.is p) (subst (λ (z : DssReply × Service). IsOrderly z.1) l.out_is o))
 by_effect table owners w names j k s call x here p out o t (makes_ticket l) =
     subst (λ z. Taken table owners w k s call z) (sym l.out_is)
     (ticket_put_taken table owners w names j k s call l.ticket l.area l.base l.is (subst (λ (z : DssReply × Service). IsOrderly z.1) l.out_is o))
@@ -577,16 +533,6 @@ by_effect table owners w names j k s call x here p out o t (takes_ticket_out l) 
     subst (λ z. Taken table owners w k s call z) (sym l.out_is)
     (ticket_remove_taken table owners w names j k s call l.id l.ticket l.is l.found (subst (λ (z : DssReply × Service). IsOrderly z.1) l.out_is o))
 by_effect table owners w names j k s call x here p out o t (stays l) = stays_taken table owners w names j k s call x here p out o t l
-
--- who sent a call is there
-sender : (table : List ℕ) (owners : List Owner) (w : World) → AreSuppliers table owners → Facts table owners w → (s : ℕ) (call : DssCall) → WasDue w s call → (x : Supplier) × Stands owners w s x
-sender table owners w names j s call d = stands_by table owners w names j s empty_not
-  where
-    empty_not : book_of s w ≡ [] → ⊥
-    empty_not e =
-        let o : owner_of (d.before ++ d.more) ≡ Some d.owner = owner_kept d.before d.more d.owner d.owns_book in
-        let n : None ≡ Some d.owner = sym (ap owner_of (sym d.book_is ∙ e)) ∙ o in
-        cc
 
 pub call_facts : (table : List ℕ) (owners : List Owner) (w : World) → AreSuppliers table owners → (k s : ℕ) (call : DssCall) → Has w.posts (Called s call) → Facts table owners w
     → Facts table owners (after_call w k s call (service_step w.service (name_of s w) call.ask))

@@ -1,7 +1,6 @@
 -- What a closed job recorded is its one landing, and any other closed job has none.
 use Rattle.std.proofs.Common.{ℕ, ◌==◌, ◌≡◌, inl, inr, Bool, true, false, List, refl, ap, sym, subst, ◌∙◌}
 use Rattle.uss_intent.specs.Identifiers.{ticket_number}
-use Rattle.uss_intent.specs.declared.records.Landing.{Landing}
 use Rattle.uss_intent.specs.Numbers.{is_one_of}
 use Rattle.uss_event.specs.declared.entries.Owner.{Owner}
 use Rattle.uss_law_dss.specs.Lists.{Has}

@@ -34,7 +34,7 @@ use Rattle.uss_law_world.specs.World.{Supplier, Saying, World, supplier_in, book
 use Rattle.uss_law_world.specs.World.Post.{Called, Replied, Asked, Answered}
 use Rattle.uss_law_world.specs.Claims.{tag_in, rank_of, IsLandingOf}
 use Rattle.uss_law_world.proofs.Books.{holding_stays, ending_stays}
-use Rattle.uss_law_world.specs.Invariants.{HasLegalBook, WasDue, ShowsLanding, IsThere, IsThereOrGone, IsMadeBy, IsRemovedBy}
+use Rattle.uss_law_world.specs.Invariants.{HasLegalBook, WasDue, ShowsLanding, IsThere, IsThereOrGone, IsMadeBy, IsRemovedOf}
 use Rattle.uss_law_world.proofs.Facts.{HasLanding, IsPairLanded, LandingFrom, RecordedFrom, AreApart, NamesHeld, IsEndOf, IsToEnd, CallFrom, ReplyShows, IsClearOfPair, IsEntered, IsStanding, EndingShows, SaidIsKept, Facts}
 
 -- a ticket is there, whatever its index, or was removed
@@ -162,7 +162,7 @@ module _ {w v : World} (g : Grows w v) where
   landing_of s job l h =
       record { there = g.landings l h.there; manager = h.manager ∙ sym (g.names s); trial = h.trial; tried = trial s h.trial h.tried; job_is = h.job_is; tag = h.tag }
 
-  shows : (s : ℕ) (r : Reference) → ShowsLanding w s r → ShowsLanding v s r
+  pub shows : (s : ℕ) (r : Reference) → ShowsLanding w s r → ShowsLanding v s r
   shows s r h = λ o e. (let k = h o e in record {
     landing = k.landing;
     landed = g.landings k.landing k.landed;
@@ -190,21 +190,27 @@ module _ {w v : World} (g : Grows w v) where
   made_by s (Asks.TicketPut ticket area base) h = there_or_gone s ticket h
   made_by s _ h = tt
 
-  pub removed_by : (ask : DssAsk) → IsRemovedBy w ask → IsRemovedBy v ask
-  removed_by (Asks.Remove flight ovn) h = g.flights flight h
-  removed_by (Asks.TicketRemove ticket version) h = g.tickets ticket h
-  removed_by _ h = tt
+  pub removed_of : (ask : DssAsk) → IsRemovedOf w ask → IsRemovedOf v ask
+  removed_of (Asks.Query area) h = tt
+  removed_of (Asks.Get flight) h = g.flights flight h
+  removed_of (Asks.Put flight ovn extents key state base ticket) h = g.flights flight h
+  removed_of (Asks.Remove flight ovn) h = g.flights flight h
+  removed_of (Asks.TicketPut ticket area base) h = g.tickets ticket h
+  removed_of (Asks.TicketGet ticket) h = g.tickets ticket h
+  removed_of (Asks.TicketRemove ticket version) h = g.tickets ticket h
 
   pub reply_shows : (s job : ℕ) (ask : DssAsk) (reply : DssReply) → ReplyShows w s job ask reply → ReplyShows v s job ask reply
+  reply_shows s job ask (Replies.Found references) h = λ r i. shows s r (h r i)
   reply_shows s job ask (Replies.Landed r subscribers) h = shows s r h
   reply_shows s job ask (Replies.Got r) h = shows s r h
-  reply_shows s job ask (Replies.Removed r subscribers) h = removed_by ask h
+  reply_shows s job ask (Replies.Removed r subscribers) h = (shows s r h.0, removed_of ask h.1)
   reply_shows s job ask (Replies.TicketMade t) h = made_by s ask h
-  reply_shows s job ask (Replies.TicketRemoved t) h = removed_by ask h
+  reply_shows s job ask (Replies.TicketRemoved t) h = removed_of ask h
   reply_shows s job ask (Replies.Refused refusal) h =
       record {
         there = λ e. made_by s ask (h.there e);
-        retired = λ e. removed_by ask (h.retired e);
+        retired = λ e. removed_of ask (h.retired e);
+        missing = λ rs e r i. shows s r (h.missing rs e r i);
         settled = λ e. elim (h.settled e) [ inl c ↦ inl (closed s job c) | inr l ↦ inr (l.0, landing_of s job l.0 l.1) ];
       }
   reply_shows s job ask _ h = tt

@@ -1,6 +1,5 @@
 -- What holds beside the claims after every free list of moves: of books, calls, landings, replies and keys.
-use Rattle.std.proofs.Common.{ℕ, ◌≡◌, true, List, [], ◌∷◌, ◌++◌, refl, ap, sym, subst, ◌∙◌, Option, Some, None, IfSome}
-use Rattle.uss_intent.specs.States.{is_strategic}
+use Rattle.std.proofs.Common.{ℕ, ◌≡◌, List, ◌++◌, refl, sym, subst, ◌∙◌, Option, Some, None, IfSome}
 use Rattle.uss_intent.specs.declared.records.Landing.{Landing}
 use Rattle.uss_intent.specs.declared.calls.DssAsk.{DssAsk}
 use Rattle.uss_intent.specs.declared.calls.DssReply.{DssReply}
@@ -9,16 +8,15 @@ use Rattle.uss_intent.specs.declared.calls.DssRefusal.{DssRefusal}
 use Rattle.uss_intent.specs.declared.calls.DssRefusal.TheVariants as Refuses
 use Rattle.uss_event.specs.Pairs.{OperationalIntent}
 use Rattle.uss_event.specs.declared.entries.Owner.{Owner}
-use Rattle.uss_event.specs.declared.calls.DssCall.{DssCall}
 use Rattle.uss_law_dss.specs.Lists.{Has}
 use Rattle.uss_law_dss.specs.Orderly.{IsOrderly}
-use Rattle.uss_law_book.specs.Attempts.{Attempted, attempt_of}
-use Rattle.uss_law_world.specs.World.{World, book_of, start}
+use Rattle.uss_law_book.specs.Attempts.{Attempted}
+use Rattle.uss_law_world.specs.World.{World, start}
 use Rattle.uss_law_world.specs.World.Post.{Replied}
 use Rattle.uss_law_world.specs.Moves.{Move, run}
 use Rattle.uss_law_world.specs.Free.{AreSuppliers, IsFree}
 use Rattle.uss_law_world.specs.Claims.{IsMade}
-use Rattle.uss_law_world.specs.Invariants.{BooksAreLegal, EachCallWasDue, IsTriedAs, EachLandingIsTried, IsSo, RepliesAreSo, IsClearOfLanding, KeysAreClear, OpenJobsAgree, JobsLandWhatTheyHold}
+use Rattle.uss_law_world.specs.Invariants.{BooksAreLegal, EachCallWasDue, IsTriedAs, EachLandingIsTried, IsSo, RepliesAreSo, KeysAreClear, OpenJobsAgree, JobsLandWhatTheyHold}
 use Rattle.uss_law_world.proofs.Facts.{IsPairLanded, RefusedShows, ReplyShows, Facts}
 use Rattle.uss_law_world.proofs.Parts.{attempt_manager, attempt_tag, one_attempt}
 use Rattle.uss_law_world.proofs.Headline.{pair_is_made}
@@ -48,9 +46,11 @@ module _ (table : List ℕ) (owners : List Owner) (w : World) (names : AreSuppli
   refused_so : (s job : ℕ) (ask : DssAsk) (refusal : DssRefusal) → RefusedShows w s job ask refusal → IsSo w s ask (Replies.Refused refusal)
   refused_so s job ask Refuses.Exists h = h.there refl
   refused_so s job ask Refuses.Retired h = h.retired refl
+  refused_so s job ask (Refuses.MissingKey references) h = h.missing references refl
   refused_so s job ask _ h = tt
 
   shown_so : (s job : ℕ) (ask : DssAsk) (reply : DssReply) → ReplyShows w s job ask reply → IsSo w s ask reply
+  shown_so s job ask (Replies.Found references) h = h
   shown_so s job ask (Replies.Landed r subscribers) h = h
   shown_so s job ask (Replies.Got r) h = h
   shown_so s job ask (Replies.Removed r subscribers) h = h

@@ -9,6 +9,7 @@ pub mod Clear
 pub mod Jobs
 pub mod Ranks
 pub mod Replies
+pub mod Shown
 pub mod Calls
 pub mod Sendings
 pub mod Answering

@@ -1,15 +1,13 @@
 -- While a job is open, what is recorded of its flight is what is held, or the job's landing.
-use Rattle.std.proofs.Common.{ℕ, ◌<◌, ◌^◌, ◌==◌, ◌≡◌, ◌⊎◌, inl, inr, Bool, true, false, List, [], ◌∷◌, refl, ap, sym, subst, ◌∙◌, Option, Some}
+use Rattle.std.proofs.Common.{ℕ, ◌<◌, ◌^◌, ◌==◌, ◌≡◌, ◌⊎◌, inl, inr, Bool, true, false, List, [], ◌∷◌, refl, ap, sym, subst, ◌∙◌, Some}
 use Rattle.uss_intent.specs.Identifiers.{flight_number, ticket_number}
 use Rattle.uss_intent.specs.declared.records.Recorded.{Recorded}
-use Rattle.uss_intent.specs.declared.records.Reference.{Reference}
 use Rattle.uss_intent.specs.declared.records.Landing.{Landing}
 use Rattle.uss_intent.specs.Numbers.{is_one_of}
 use Rattle.uss_event.specs.declared.asks.Wish.{Wish}
 use Rattle.uss_event.specs.declared.asks.Wish.TheVariants.{End}
 use Rattle.uss_event.specs.declared.entries.Owner.{Owner}
 use Rattle.uss_law_dss.specs.Lists.{Has}
-use Rattle.uss_law_dss.specs.Service.{recorded_of}
 use Rattle.uss_law_dss.specs.Orderly.{IsAsLanded}
 use Rattle.uss_law_dss.proofs.Lists.{find_has}
 use Rattle.uss_law_dss.proofs.Tests.{same_number, equal_number, not_both, some_same}
@@ -122,8 +120,11 @@ module _ (table : List ℕ) (owners : List Owner) (w : World) (names : AreSuppli
         go : (x : Bool) → is_one_of (flight_number s flight) w.service.retired_flights ≡ x → (IsUnretired w s flight × HoldsWhatIsRecorded w s flight) ⊎ (IsRetired w s flight × IsUnrecorded w s flight)
         go true e = inr (e, λ q h g. not_both (is_one_of (flight_number s flight) w.service.retired_flights) e (subst (λ n. is_one_of n w.service.retired_flights ≡ false) g (j.service.flights_stay_retired q h)))
         go false e =
-            inl (e, holds_what_is_recorded table owners w names j s flight small live e
-            (λ q l i g a. others_shut q i g (λ z. absurd (end_tries_nothing table owners w names j s o a.trial opened end a.tried (a.job_is ∙ ap (λ (y : Opening). y.job) z)))))
+            inl (
+              e,
+              holds_what_is_recorded table owners w names j s flight small live e
+                  (λ q l i g a. others_shut q i g (λ z. absurd (end_tries_nothing table owners w names j s o a.trial opened end a.tried (a.job_is ∙ ap (λ (y : Opening). y.job) z)))),
+            )
 
   pub open_jobs_agree : OpenJobsAgree w
   open_jobs_agree =

@@ -93,13 +93,17 @@ pub record IsShown (w : World) (s : ℕ) (r : Reference) (ovn : List ℕ) : Type
 abbrev pub ShowsLanding : World → ℕ → Reference → Type 0
 ShowsLanding w s r = (ovn : List ℕ) → r.ovn ≡ Some ovn → IsShown w s r ovn
 
--- the supplier's ticket is there, or was removed
+abbrev pub AreShown : World → ℕ → List Reference → Type 0
+AreShown w s references = (r : Reference) → Has references r → ShowsLanding w s r
+
+-- the supplier's ticket is there
 pub record IsThere (w : World) (s ticket : ℕ) : Type 0 where
   pub found : Ticket
   pub there : Has w.service.tickets found
   pub id : found.id ≡ ticket
   pub manager : found.manager ≡ name_of s w
 
+-- or it was removed
 abbrev pub IsThereOrGone : World → ℕ → ℕ → Type 0
 IsThereOrGone w s ticket = IsThere w s ticket ⊎ (is_one_of ticket w.service.retired_tickets ≡ true)
 
@@ -108,23 +112,30 @@ abbrev pub IsMadeBy : World → ℕ → DssAsk → Type 0
 IsMadeBy w s (Asks.TicketPut ticket area base) = IsThereOrGone w s ticket
 IsMadeBy w s _ = Unit {0}
 
--- the flight, or the ticket, that a call is to remove was removed
-abbrev pub IsRemovedBy : World → DssAsk → Type 0
-IsRemovedBy w (Asks.Remove flight ovn) = is_one_of flight w.service.retired_flights ≡ true
-IsRemovedBy w (Asks.TicketRemove ticket version) = is_one_of ticket w.service.retired_tickets ≡ true
-IsRemovedBy w _ = Unit {0}
+-- the flight, or the ticket, that a call names was removed
+abbrev pub IsRemovedOf : World → DssAsk → Type 0
+IsRemovedOf w (Asks.Query area) = Unit {0}
+IsRemovedOf w (Asks.Get flight) = is_one_of flight w.service.retired_flights ≡ true
+IsRemovedOf w (Asks.Put flight ovn extents key state base ticket) = is_one_of flight w.service.retired_flights ≡ true
+IsRemovedOf w (Asks.Remove flight ovn) = is_one_of flight w.service.retired_flights ≡ true
+IsRemovedOf w (Asks.TicketPut ticket area base) = is_one_of ticket w.service.retired_tickets ≡ true
+IsRemovedOf w (Asks.TicketGet ticket) = is_one_of ticket w.service.retired_tickets ≡ true
+IsRemovedOf w (Asks.TicketRemove ticket version) = is_one_of ticket w.service.retired_tickets ≡ true
 
--- what a reply to a supplier's call showed is so: a landing, a ticket that is there, or that the call's flight or ticket was removed, now
--- or before
+-- what a reply to a supplier's call showed is so: that references landed, that a ticket is there, or that the flight or the ticket was
+-- removed, now or before
 abbrev pub IsSo : World → ℕ → DssAsk → DssReply → Type 0
-IsSo w s ask (Replies.Landed r subscribers) = ShowsLanding w s r
+IsSo w s ask (Replies.Found references) = AreShown w s references
 IsSo w s ask (Replies.Got r) = ShowsLanding w s r
-IsSo w s ask (Replies.Removed r subscribers) = IsRemovedBy w ask
+IsSo w s ask (Replies.Landed r subscribers) = ShowsLanding w s r
+IsSo w s ask (Replies.Removed r subscribers) = ShowsLanding w s r × IsRemovedOf w ask
 IsSo w s ask (Replies.TicketMade t) = IsMadeBy w s ask
-IsSo w s ask (Replies.TicketRemoved t) = IsRemovedBy w ask
+IsSo w s ask (Replies.TicketGot t) = Unit {0}
+IsSo w s ask (Replies.TicketRemoved t) = IsRemovedOf w ask
 IsSo w s ask (Replies.Refused Refuses.Exists) = IsMadeBy w s ask
-IsSo w s ask (Replies.Refused Refuses.Retired) = IsRemovedBy w ask
-IsSo w s ask _ = Unit {0}
+IsSo w s ask (Replies.Refused Refuses.Retired) = IsRemovedOf w ask
+IsSo w s ask (Replies.Refused (Refuses.MissingKey references)) = AreShown w s references
+IsSo w s ask (Replies.Refused _) = Unit {0}
 
 -- what the replies of the one world showed is so in the other
 abbrev pub RepliesAreSo : World → World → Type 0

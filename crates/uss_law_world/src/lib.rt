@@ -2,19 +2,20 @@
 //! that runs.
 //!
 //! `specs/World.antt` has the world, `specs/Moves.antt` what may happen in it and what comes of that, `specs/Free.antt` which lists of
-//! moves are free, `specs/Refused.antt` which steps of a script the world refuses, `specs/Claims.antt` what is claimed, and
-//! `specs/Worked.antt` and `specs/Contested.antt` worked runs. In a free list of moves each step of a supplier is any that its duties
-//! allow (`MayStep` of `uss_law_duty`), and each step of the discovery service is that of its definition (`service_step` of
-//! `uss_law_dss`); messages are lost, come late or come again, and suppliers stop and restart at any moment. The functions below do
-//! nothing: their contracts carry the laws. `proofs/Facts.antt` has what is kept by every move; the proofs of the laws stand on
-//! nothing else.
+//! moves are free, `specs/Refused.antt` which steps of a script the world refuses, `specs/Claims.antt` what is claimed,
+//! `specs/Invariants.antt` what holds beside that, of books, calls, landings, replies, keys and jobs, and `specs/Worked.antt` and
+//! `specs/Contested.antt` worked runs. In a free list of moves each step of a supplier is any that its duties allow (`MayStep` of
+//! `uss_law_duty`), and each step of the discovery service is that of its definition (`service_step` of `uss_law_dss`); messages are
+//! lost, come late or come again, and suppliers stop and restart at any moment. The functions below do nothing: their contracts carry
+//! the laws. `proofs/Facts.antt` has what is kept by every move; the proofs of the laws stand on nothing else.
 //!
 //! Which clauses of `MayStep` the laws need: all of them `legal` and `records`; `keys`, `hears`, `pair`, `notes` and `held` that intents
 //! stay apart, that landings are clear and that pairs are made; `held`, `removals` and `final` that final answers are true; `held`,
 //! `removals` and, for whose ticket it is, `ticket_removals` that refusals are settled and that an open job's landing stays recorded;
-//! `held` and `removals` that books agree with the service. No law here needs `tickets`, `ticket_calls`, `cause` and `goes_on`. Nor
-//! does any need that a Put is of an open job and a Remove of an open one, that a Held comes of a fitting reply to the very call, or
-//! when a ticket may be taken out: those duties keep a supplier from getting in its own way.
+//! `held` and `removals` that books agree with the service, that open jobs do, and which jobs have a landing. No law here needs
+//! `tickets`, `cause` and `goes_on`, or that a Held comes of a fitting reply to the very call. And only the law that calls were due says
+//! that a Put is of an open job, a Remove of an open one, and when a ticket may be asked for and taken out (`ticket_calls`): those duties
+//! keep a supplier from getting in its own way.
 #![tactic(auto)]
 
 ghost use Rattle.std.specs.Prelude.{◌≡◌, ◌≤◌, ◌++◌, [], ◌∷◌, List, ℕ, Some};
@@ -100,7 +101,8 @@ pub fn landings_are_of_attempts()
 {}
 
 /// What a reply of the discovery service showed is so, and stays so after every further list of moves: a reference that is shown with its
-/// OVN is an attempt as it landed, a ticket that was made is there or was removed, and what was removed is retired.
+/// OVN is an attempt as it landed, a ticket that was made or is refused as there is there or was removed, and what was removed or is
+/// refused as retired is retired.
 pub fn what_replies_showed_stays_so()
     ensures now { (table : List ℕ) (owners : List Owner) (moves : List Move) → AreSuppliers table owners → IsFree (start owners) moves
         → RepliesAreSo (run (start owners) moves) (run (start owners) moves) }
