@@ -90,6 +90,7 @@ pub record IsShown (w : World) (s : ℕ) (r : Reference) (ovn : List ℕ) : Type
   pub found : attempt_of (tag_in r) (book_of s w) ≡ Some attempt
   pub is : r ≡ (recorded_as attempt ovn r.version).reference
 
+-- and so it is wherever a reference shows an OVN
 abbrev pub ShowsLanding : World → ℕ → Reference → Type 0
 ShowsLanding w s r = (ovn : List ℕ) → r.ovn ≡ Some ovn → IsShown w s r ovn
 
@@ -103,7 +104,7 @@ pub record IsThere (w : World) (s ticket : ℕ) : Type 0 where
   pub id : found.id ≡ ticket
   pub manager : found.manager ≡ name_of s w
 
--- or it was removed
+-- the supplier's ticket is there, or was removed
 abbrev pub IsThereOrGone : World → ℕ → ℕ → Type 0
 IsThereOrGone w s ticket = IsThere w s ticket ⊎ (is_one_of ticket w.service.retired_tickets ≡ true)
 
@@ -139,7 +140,8 @@ IsSo w s ask (Replies.Refused _) = Unit {0}
 
 -- what the replies of the one world showed is so in the other
 abbrev pub RepliesAreSo : World → World → Type 0
-RepliesAreSo w v = (s answered : ℕ) (call : DssCall) (reply : DssReply) → Has w.posts (Replied s answered call reply) → IsSo v s call.ask reply
+RepliesAreSo w v =
+    (s answered : ℕ) (call : DssCall) (reply : DssReply) → Has w.posts (Replied s answered call reply) → IsSo v s call.ask reply
 
 -- an OVN of an attempt's key is that of a landing against whose attempt, as it landed, the attempt is clear; what the attempt changes is
 -- the attempt of the landing that its previous OVN names, as that landed
@@ -154,8 +156,10 @@ pub record IsClearOfLanding (table : List ℕ) (w : World) (a : Attempted) (ovn 
 
 abbrev pub KeysAreClear : List ℕ → World → Type 0
 KeysAreClear table w =
-    (s tag : ℕ) (a : Attempted) → attempt_of tag (book_of s w) ≡ Some a → is_strategic a.state ≡ true → (ovn : List ℕ) → Has a.key ovn → IsClearOfLanding table w a ovn
+    (s tag : ℕ) (a : Attempted) → attempt_of tag (book_of s w) ≡ Some a → is_strategic a.state ≡ true →
+    (ovn : List ℕ) → Has a.key ovn → IsClearOfLanding table w a ovn
 
+-- the supplier's flight with a number is retired, or it isn't
 abbrev pub IsRetired : World → ℕ → ℕ → Type 0
 IsRetired w s flight = is_one_of (flight_number s flight) w.service.retired_flights ≡ true
 
@@ -166,7 +170,7 @@ IsUnretired w s flight = is_one_of (flight_number s flight) w.service.retired_fl
 abbrev pub IsUnrecorded : World → ℕ → ℕ → Type 0
 IsUnrecorded w s flight = (r : Recorded) → Has w.service.references r → r.reference.flight ≡ flight_number s flight → ⊥
 
--- what is recorded of the flight is as it was before the job, which has no landing
+-- the job has no landing, and what is recorded of its flight is what was before: what is held
 pub record IsAsBefore (w : World) (s : ℕ) (o : Opening) : Type 0 where
   pub nothing : NothingLanded w s o.job
   pub held : HoldsWhatIsRecorded w s o.ask.flight
@@ -191,13 +195,17 @@ pub record IsBeingEnded (book : List Entry) (flight : ℕ) : Type 0 where
 pub record OpenJobsAgree (w : World) : Type 0 where
   -- while a job is open that is to record something, its flight isn't retired, and what is recorded of it is what was before, or the job's
   -- landing
-  pub puts : (s job : ℕ) (o : Opening) → is_open job (book_of s w) ≡ true → opening_of job (book_of s w) ≡ Some o → is_put o.ask.wish ≡ true
+  pub puts : (s job : ℕ) (o : Opening) → is_open job (book_of s w) ≡ true → opening_of job (book_of s w) ≡ Some o
+      → is_put o.ask.wish ≡ true
       → IsUnretired w s o.ask.flight × (IsAsBefore w s o ⊎ IsByTheJob w s o)
-  -- while one is open that is to end its flight, what is recorded of that is as it was before, or the flight is retired
-  pub ends : (s job : ℕ) (o : Opening) → is_open job (book_of s w) ≡ true → opening_of job (book_of s w) ≡ Some o → o.ask.wish ≡ End
-      → (IsUnretired w s o.ask.flight × HoldsWhatIsRecorded w s o.ask.flight) ⊎ (IsRetired w s o.ask.flight × IsUnrecorded w s o.ask.flight)
+  -- while one is open that is to end its flight, what is recorded of that is what is held, or the flight is retired
+  pub ends : (s job : ℕ) (o : Opening) → is_open job (book_of s w) ≡ true → opening_of job (book_of s w) ≡ Some o
+      → o.ask.wish ≡ End
+      → (IsUnretired w s o.ask.flight × HoldsWhatIsRecorded w s o.ask.flight)
+      ⊎ (IsRetired w s o.ask.flight × IsUnrecorded w s o.ask.flight)
   -- a retired flight has ended, or an open job is to end it
-  pub retired : (s flight : ℕ) → flight < 2 ^ 64 → IsRetired w s flight → (has_ended flight (book_of s w) ≡ true) ⊎ IsBeingEnded (book_of s w) flight
+  pub retired : (s flight : ℕ) → flight < 2 ^ 64 → IsRetired w s flight
+      → (has_ended flight (book_of s w) ≡ true) ⊎ IsBeingEnded (book_of s w) flight
 
 -- what a closed job recorded is its one landing
 pub record HasItsOneLanding (w : World) (s : ℕ) (h : Holding) : Type 0 where
@@ -213,6 +221,8 @@ pub record JobsLandWhatTheyHold (w : World) : Type 0 where
   pub held : (s : ℕ) (h : Holding) → Has (holdings (book_of s w)) h → HasItsOneLanding w s h
   -- a job that ended without a record has none, and where it made an attempt, its ticket is retired
   pub ended : (s job : ℕ) → is_done job (book_of s w) ≡ true → NothingLanded w s job
-  pub lost : (s : ℕ) (t : Trial) → Has (trials (book_of s w)) t → is_done t.job (book_of s w) ≡ true → is_one_of (ticket_number s t.job) w.service.retired_tickets ≡ true
+  pub lost : (s : ℕ) (t : Trial) → Has (trials (book_of s w)) t → is_done t.job (book_of s w) ≡ true
+      → is_one_of (ticket_number s t.job) w.service.retired_tickets ≡ true
   -- an open job whose ticket is retired has none
-  pub losing : (s job : ℕ) → is_open job (book_of s w) ≡ true → is_one_of (ticket_number s job) w.service.retired_tickets ≡ true → NothingLanded w s job
+  pub losing : (s job : ℕ) → is_open job (book_of s w) ≡ true → is_one_of (ticket_number s job) w.service.retired_tickets ≡ true
+      → NothingLanded w s job

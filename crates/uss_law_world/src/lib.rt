@@ -89,15 +89,19 @@ pub fn pairs_are_made()
 /// Each supplier's book is legal, and each call of the discovery service that was ever sent was due: at a beginning of its sender's book
 /// the duties allow it.
 pub fn books_are_legal_and_calls_were_due()
-    ensures legal { (table : List ℕ) (owners : List Owner) (moves : List Move) → AreSuppliers table owners → IsFree (start owners) moves → BooksAreLegal owners (run (start owners) moves) }
-    ensures due { (table : List ℕ) (owners : List Owner) (moves : List Move) → AreSuppliers table owners → IsFree (start owners) moves → EachCallWasDue (run (start owners) moves) }
+    ensures legal { (table : List ℕ) (owners : List Owner) (moves : List Move) → AreSuppliers table owners → IsFree (start owners) moves
+        → BooksAreLegal owners (run (start owners) moves) }
+    ensures due { (table : List ℕ) (owners : List Owner) (moves : List Move) → AreSuppliers table owners → IsFree (start owners) moves
+        → EachCallWasDue (run (start owners) moves) }
 {}
 
 /// The discovery service's state is orderly: a recorded reference is its flight's last landing, and its ticket is there and its manager's.
 /// And each landing has exactly one attempt, and has its flight, previous OVN and ticket.
 pub fn landings_are_of_attempts()
-    ensures orderly { (table : List ℕ) (owners : List Owner) (moves : List Move) → AreSuppliers table owners → IsFree (start owners) moves → IsOrderly (run (start owners) moves).service }
-    ensures tried { (table : List ℕ) (owners : List Owner) (moves : List Move) → AreSuppliers table owners → IsFree (start owners) moves → EachLandingIsTried (run (start owners) moves) }
+    ensures orderly { (table : List ℕ) (owners : List Owner) (moves : List Move) → AreSuppliers table owners → IsFree (start owners) moves
+        → IsOrderly (run (start owners) moves).service }
+    ensures tried { (table : List ℕ) (owners : List Owner) (moves : List Move) → AreSuppliers table owners → IsFree (start owners) moves
+        → EachLandingIsTried (run (start owners) moves) }
 {}
 
 /// What a reply of the discovery service showed is so, and stays so after every further list of moves: a reference that is shown with its
@@ -113,19 +117,22 @@ pub fn what_replies_showed_stays_so()
 /// Each OVN of the key of an attempt into Accepted or Activated is that of a landing, and nothing of that landing's attempt stands against
 /// this one, which takes the place of the landing that its previous OVN names.
 pub fn keys_are_clear()
-    ensures { (table : List ℕ) (owners : List Owner) (moves : List Move) → AreSuppliers table owners → IsFree (start owners) moves → KeysAreClear table (run (start owners) moves) }
+    ensures { (table : List ℕ) (owners : List Owner) (moves : List Move) → AreSuppliers table owners → IsFree (start owners) moves
+        → KeysAreClear table (run (start owners) moves) }
 {}
 
 /// While a job is open that is to record something, its flight isn't retired, and what is recorded of that is what its supplier holds, or the
 /// job's landing. While one is open that is to end its flight, what is recorded is what is held, or the flight is retired.
 pub fn open_jobs_agree_with_the_service()
-    ensures { (table : List ℕ) (owners : List Owner) (moves : List Move) → AreSuppliers table owners → IsFree (start owners) moves → OpenJobsAgree (run (start owners) moves) }
+    ensures { (table : List ℕ) (owners : List Owner) (moves : List Move) → AreSuppliers table owners → IsFree (start owners) moves
+        → OpenJobsAgree (run (start owners) moves) }
 {}
 
 /// What a closed job recorded is its one landing. A job that ended without a record has no landing, and its ticket is retired where it made
 /// an attempt; and an open job whose ticket is retired has no landing.
 pub fn jobs_land_what_they_hold()
-    ensures { (table : List ℕ) (owners : List Owner) (moves : List Move) → AreSuppliers table owners → IsFree (start owners) moves → JobsLandWhatTheyHold (run (start owners) moves) }
+    ensures { (table : List ℕ) (owners : List Owner) (moves : List Move) → AreSuppliers table owners → IsFree (start owners) moves
+        → JobsLandWhatTheyHold (run (start owners) moves) }
 {}
 
 /// A worked run: the supplier stops before its Put leaves, and the reply that the Put landed is lost; the supplier finds its landing
