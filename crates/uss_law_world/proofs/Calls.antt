@@ -39,7 +39,7 @@ use Rattle.uss_law_world.specs.World.Post.{Called, Replied}
 use Rattle.uss_law_world.specs.Moves.{after_call}
 use Rattle.uss_law_world.specs.Free.{AreSuppliers}
 use Rattle.uss_law_world.specs.Claims.{rank_of, IsLandingOf, is_unsettling}
-use Rattle.uss_law_world.specs.Invariants.{ShowsLanding, IsThereOrGone, IsMadeBy, IsRemovedOf}
+use Rattle.uss_law_world.specs.Invariants.{ShowsLanding, IsTicketThereOrGone, IsTicketMadeOf, IsRemovedOf}
 use Rattle.uss_law_world.proofs.Books.{legal_facts}
 use Rattle.uss_law_world.proofs.Lookups.{same_ticket}
 use Rattle.uss_law_world.proofs.Facts.{LandingFrom, RecordedFrom, AreApart, IsTriedPut, NamesHeld, IsEndOf, IsRemoveSent, IsToEnd, IsTicketOf, CallFrom, RefusedShows, ReplyShows, IsRecorded, IsStanding, Facts}
@@ -51,7 +51,7 @@ use Rattle.uss_law_world.proofs.Jobs.{by_opening, landing_of_recorded, settled}
 use Rattle.uss_law_world.proofs.Ranks.{rank_kept, rank_of_new}
 use Rattle.uss_law_world.proofs.Clear.{not_forbidden, forbidden_sym}
 use Rattle.uss_law_world.proofs.Shown.{recorded_shows, sender}
-use Rattle.uss_law_world.proofs.Replies.{Tells, tells, retired_told, missing_shown, ticket_in_use, put_exists, put_stale, one_recorded, IsOtherwise}
+use Rattle.uss_law_world.proofs.Replies.{TellsOfState, tells, retired_told, missing_shown, ticket_in_use, put_exists, put_stale, one_recorded, IsOtherwise}
 
 or_first : (a : Bool) → (a || false) ≡ true → a ≡ true
 or_first true h = refl
@@ -392,8 +392,8 @@ module _ (table : List ℕ) (owners : List Owner) (w : World) (names : AreSuppli
       let kept_there = kept_by_ticket_put w.service (name_of s w) ticket area base in
       let g = call_grows w k s call out (record { landings = λ l h. h; ranks = λ flight l h. refl; flights = λ n h. h; tickets = λ n h. h; there = kept_there }) in
       let new = new_ticket (name_of s w) ticket area base in
-      let made : IsThereOrGone (after_call w k s call out) s ticket = inl (record { found = new; there = put_ticket_there new w.service.tickets; id = refl; manager = refl }) in
-      quiet_taken out o refl (λ q h. h) (λ n h. h) (λ n h. h) kept_there (subst (IsMadeBy (after_call w k s call out) s) (sym is) made) (still out g (λ r h. h)) (λ n h. inl h)
+      let made : IsTicketThereOrGone (after_call w k s call out) s ticket = inl (record { found = new; there = put_ticket_there new w.service.tickets; id = refl; manager = refl }) in
+      quiet_taken out o refl (λ q h. h) (λ n h. h) (λ n h. h) kept_there (subst (IsTicketMadeOf (after_call w k s call out) s) (sym is) made) (still out g (λ r h. h)) (λ n h. inl h)
 
   pub ticket_remove_taken : (id : ℕ) (t : Ticket) → call.ask ≡ Asks.TicketRemove id 1 → ticket_of id w.service ≡ Some t → IsOrderly (after_ticket_remove w.service t).1
       → Taken table owners w k s call (after_ticket_remove w.service t)
@@ -452,7 +452,7 @@ module _ (table : List ℕ) (owners : List Owner) (w : World) (names : AreSuppli
   refused_retires (Asks.TicketGet ticket) e = retired_told w.service (name_of s w) (Asks.TicketGet ticket) e
   refused_retires (Asks.TicketRemove ticket version) e = retired_told w.service (name_of s w) (Asks.TicketRemove ticket version) e
 
-  exists_shows : (ask : DssAsk) → refusal_of w.service (name_of s w) ask ≡ Some Refuses.Exists → IsMadeBy w s ask
+  exists_shows : (ask : DssAsk) → refusal_of w.service (name_of s w) ask ≡ Some Refuses.Exists → IsTicketMadeOf w s ask
   exists_shows (Asks.TicketPut ticket area base) e =
       let t = ticket_exists w.service (name_of s w) ticket area base e in
       inl (record { found = t.found; there = t.there; id = t.id; manager = t.manager })
@@ -480,7 +480,7 @@ module _ (table : List ℕ) (owners : List Owner) (w : World) (names : AreSuppli
       }
 
   -- no change
-  stays_shows : (x : Supplier) → Stands owners w s x → (ask : DssAsk) → CallFrom w s call.job ask → (reply : DssReply) → Tells w.service (name_of s w) ask reply → TellsNoChange reply → ReplyShows w s call.job ask reply
+  stays_shows : (x : Supplier) → Stands owners w s x → (ask : DssAsk) → CallFrom w s call.job ask → (reply : DssReply) → TellsOfState w.service (name_of s w) ask reply → TellsNoChange reply → ReplyShows w s call.job ask reply
   stays_shows x st ask p (Replies.Found references) t n = λ r i. recorded_shows table owners w names j s x st r (t r i).recorded (t r i).there (t r i).is
   stays_shows x st ask p (Replies.Got r) t n = recorded_shows table owners w names j s x st r t.recorded t.there t.is
   stays_shows x st ask p (Replies.Landed r subscribers) t n = absurd n
@@ -490,7 +490,7 @@ module _ (table : List ℕ) (owners : List Owner) (w : World) (names : AreSuppli
   stays_shows x st ask p (Replies.TicketRemoved u) t n = absurd n
   stays_shows x st ask p (Replies.Refused refusal) t n = refused_shows x st call.job ask refusal p t
 
-  pub stays_taken : (x : Supplier) → Stands owners w s x → CallFrom w s call.job call.ask → (out : DssReply × Service) → IsOrderly out.1 → Tells w.service (name_of s w) call.ask out.0 → Stays w.service out → Taken table owners w k s call out
+  pub stays_taken : (x : Supplier) → Stands owners w s x → CallFrom w s call.job call.ask → (out : DssReply × Service) → IsOrderly out.1 → TellsOfState w.service (name_of s w) call.ask out.0 → Stays w.service out → Taken table owners w k s call out
   stays_taken x here p out o t st =
       let keeps_flights : (n : ℕ) → is_one_of n w.service.retired_flights ≡ true → is_one_of n out.1.retired_flights ≡ true = λ n h. subst (λ (z : Service). is_one_of n z.retired_flights ≡ true) (sym st.same) h in
       let keeps_tickets : (n : ℕ) → is_one_of n w.service.retired_tickets ≡ true → is_one_of n out.1.retired_tickets ≡ true = λ n h. subst (λ (z : Service). is_one_of n z.retired_tickets ≡ true) (sym st.same) h in
@@ -515,7 +515,7 @@ pub put_out : (s : Service) (client : List ℕ) (flight : ℕ) (ovn : Option (Li
 put_out s client flight ovn extents key state base ticket a e = let f = put_is flight ovn extents key state base ticket a e in rw (f.0, f.1, f.2, f.4, f.5, f.6) refl
 
 by_effect : (table : List ℕ) (owners : List Owner) (w : World) → AreSuppliers table owners → Facts table owners w → (k s : ℕ) (call : DssCall) → (x : Supplier) → Stands owners w s x → CallFrom w s call.job call.ask → (out : DssReply × Service) → IsOrderly out.1
-    → Tells w.service (name_of s w) call.ask out.0 → Effect w.service (name_of s w) call.ask out → Taken table owners w k s call out
+    → TellsOfState w.service (name_of s w) call.ask out.0 → Effect w.service (name_of s w) call.ask out → Taken table owners w k s call out
 by_effect table owners w names j k s call x here p out o t (lands l) =
     let q = is_tried call.ask l.flight l.ovn l.extents l.key l.state l.base l.ticket w s call.job l.is p in
     let a = q.attempt in

@@ -38,7 +38,7 @@ use Rattle.uss_law_duty.specs.Answers.{is_final, by_trial, by_end}
 use Rattle.uss_law_world.specs.World.{Supplier, Saying, World, supplier_in, book_of, heard_of, name_of}
 use Rattle.uss_law_world.specs.World.Post.{Called, Replied, Asked, Answered}
 use Rattle.uss_law_world.specs.Claims.{rank_of, Forbidden, IsLandingOf, is_unsettling}
-use Rattle.uss_law_world.specs.Invariants.{HasLegalBook, WasDue, ShowsLanding, AreShown, IsMadeBy, IsRemovedOf}
+use Rattle.uss_law_world.specs.Invariants.{HasLegalBook, WasDue, ShowsLanding, AreShown, IsTicketMadeOf, IsRemovedOf}
 
 -- a landing with this OVN, of this supplier with this tag, and so many of its flight up to it
 pub record HasLanding (w : World) (s tag : ℕ) (o : List ℕ) (n : ℕ) : Type 0 where
@@ -123,7 +123,7 @@ CallFrom w s job (Asks.TicketRemove ticket version) = IsTicketOf w s job ticket
 CallFrom w s job _ = Unit {0}
 
 pub record RefusedShows (w : World) (s job : ℕ) (ask : DssAsk) (refusal : DssRefusal) : Type 0 where
-  pub there : refusal ≡ Refuses.Exists → IsMadeBy w s ask
+  pub there : refusal ≡ Refuses.Exists → IsTicketMadeOf w s ask
   pub retired : refusal ≡ Refuses.Retired → IsRemovedOf w ask
   pub missing : (references : List Reference) → refusal ≡ Refuses.MissingKey references → AreShown w s references
   pub settled : is_unsettling ask refusal ≡ true → (is_closed job (book_of s w) ≡ true) ⊎ ((l : Landing) × IsLandingOf w s job l)
@@ -133,7 +133,7 @@ ReplyShows w s job ask (Replies.Found references) = AreShown w s references
 ReplyShows w s job ask (Replies.Landed r subscribers) = ShowsLanding w s r
 ReplyShows w s job ask (Replies.Got r) = ShowsLanding w s r
 ReplyShows w s job ask (Replies.Removed r subscribers) = ShowsLanding w s r × IsRemovedOf w ask
-ReplyShows w s job ask (Replies.TicketMade t) = IsMadeBy w s ask
+ReplyShows w s job ask (Replies.TicketMade t) = IsTicketMadeOf w s ask
 ReplyShows w s job ask (Replies.TicketRemoved t) = IsRemovedOf w ask
 ReplyShows w s job ask (Replies.Refused refusal) = RefusedShows w s job ask refusal
 ReplyShows w s job ask _ = Unit {0}

@@ -34,7 +34,7 @@ use Rattle.uss_law_world.specs.World.{Supplier, Saying, World, supplier_in, book
 use Rattle.uss_law_world.specs.World.Post.{Called, Replied, Asked, Answered}
 use Rattle.uss_law_world.specs.Claims.{tag_in, rank_of, IsLandingOf}
 use Rattle.uss_law_world.proofs.Books.{holding_stays, ending_stays}
-use Rattle.uss_law_world.specs.Invariants.{HasLegalBook, WasDue, ShowsLanding, IsThere, IsThereOrGone, IsMadeBy, IsRemovedOf}
+use Rattle.uss_law_world.specs.Invariants.{HasLegalBook, WasDue, ShowsLanding, IsTicketThere, IsTicketThereOrGone, IsTicketMadeOf, IsRemovedOf}
 use Rattle.uss_law_world.proofs.Facts.{HasLanding, IsPairLanded, LandingFrom, RecordedFrom, AreApart, NamesHeld, IsEndOf, IsToEnd, CallFrom, ReplyShows, IsClearOfPair, IsEntered, IsStanding, EndingShows, SaidIsKept, Facts}
 
 -- a ticket is there, whatever its index, or was removed
@@ -176,17 +176,17 @@ module _ {w v : World} (g : Grows w v) where
     is = k.is;
   })
 
-  there_still : (s ticket : ℕ) → IsThere w s ticket → IsThereOrGone v s ticket
+  there_still : (s ticket : ℕ) → IsTicketThere w s ticket → IsTicketThereOrGone v s ticket
   there_still s ticket h = elim (g.there h.found h.there) [
     | inl k ↦ inl (record { found = k.found; there = k.there; id = k.id ∙ h.id; manager = k.manager ∙ (h.manager ∙ sym (g.names s)) })
     | inr k ↦ inr (subst (λ n. is_one_of n v.service.retired_tickets ≡ true) h.id k)
   ]
 
-  pub there_or_gone : (s ticket : ℕ) → IsThereOrGone w s ticket → IsThereOrGone v s ticket
+  pub there_or_gone : (s ticket : ℕ) → IsTicketThereOrGone w s ticket → IsTicketThereOrGone v s ticket
   there_or_gone s ticket (inl h) = there_still s ticket h
   there_or_gone s ticket (inr h) = inr (g.tickets ticket h)
 
-  pub made_by : (s : ℕ) (ask : DssAsk) → IsMadeBy w s ask → IsMadeBy v s ask
+  pub made_by : (s : ℕ) (ask : DssAsk) → IsTicketMadeOf w s ask → IsTicketMadeOf v s ask
   made_by s (Asks.TicketPut ticket area base) h = there_or_gone s ticket h
   made_by s _ h = tt
 

@@ -36,41 +36,41 @@ shown_of : (s : Service) (client : List ℕ) (rs : List Recorded) → ((q : Reco
 shown_of s client rs f r h = let m = has_map (λ (q : Recorded). shown_to client q.reference) rs r h in record { recorded = m.0; there = f m.0 m.1; is = sym m.2 }
 
 -- a reference that is found or got is recorded, and a refusal is by a test
-abbrev pub Tells : Service → List ℕ → DssAsk → DssReply → Type 0
-Tells s client ask (Found references) = AreRecordsShown s client references
-Tells s client ask (Got r) = IsRecordShown s client r
-Tells s client ask (Refused refusal) = (refusal_of s client ask ≡ Some refusal) ⊎ (refusal ≡ Absent)
-Tells s client ask _ = Unit {0}
+abbrev pub TellsOfState : Service → List ℕ → DssAsk → DssReply → Type 0
+TellsOfState s client ask (Found references) = AreRecordsShown s client references
+TellsOfState s client ask (Got r) = IsRecordShown s client r
+TellsOfState s client ask (Refused refusal) = (refusal_of s client ask ≡ Some refusal) ⊎ (refusal ≡ Absent)
+TellsOfState s client ask _ = Unit {0}
 
-accepted_tells : (s : Service) (client : List ℕ) (ask : DssAsk) → Tells s client ask (accepted s client ask).0
+accepted_tells : (s : Service) (client : List ℕ) (ask : DssAsk) → TellsOfState s client ask (accepted s client ask).0
 accepted_tells s client (Query area) = shown_of s client (found_in area s.references) (λ q h. has_filter (λ (z : Recorded). reach z.extents area) s.references q h)
 accepted_tells s client (Get flight) = go (recorded_of flight s) refl
   where
-    go : (x : Option Recorded) → recorded_of flight s ≡ x → Tells s client (Get flight) (with_recorded s x (λ r. (Got (shown_to client r.reference), s))).0
+    go : (x : Option Recorded) → recorded_of flight s ≡ x → TellsOfState s client (Get flight) (with_recorded s x (λ r. (Got (shown_to client r.reference), s))).0
     go None e = inr refl
     go (Some r) e = record { recorded = r; there = (find_has (λ (q : Recorded). q.reference.flight == flight) s.references r e).0; is = refl }
 accepted_tells s client (Put flight ovn extents key state base ticket) = tt
 accepted_tells s client (Remove flight ovn) = go (recorded_of flight s)
   where
-    go : (x : Option Recorded) → Tells s client (Remove flight ovn) (with_recorded s x (λ r. after_remove s client r)).0
+    go : (x : Option Recorded) → TellsOfState s client (Remove flight ovn) (with_recorded s x (λ r. after_remove s client r)).0
     go None = inr refl
     go (Some r) = tt
 accepted_tells s client (TicketPut ticket area base) = tt
 accepted_tells s client (TicketGet ticket) = go (ticket_of ticket s)
   where
-    go : (x : Option Ticket) → Tells s client (TicketGet ticket) (with_ticket s x (λ t. (TicketGot t, s))).0
+    go : (x : Option Ticket) → TellsOfState s client (TicketGet ticket) (with_ticket s x (λ t. (TicketGot t, s))).0
     go None = inr refl
     go (Some t) = tt
 accepted_tells s client (TicketRemove ticket version) = go (ticket_of ticket s)
   where
-    go : (x : Option Ticket) → Tells s client (TicketRemove ticket version) (with_ticket s x (λ t. after_ticket_remove s t)).0
+    go : (x : Option Ticket) → TellsOfState s client (TicketRemove ticket version) (with_ticket s x (λ t. after_ticket_remove s t)).0
     go None = inr refl
     go (Some t) = tt
 
-pub tells : (s : Service) (client : List ℕ) (ask : DssAsk) → Tells s client ask (service_step s client ask).0
+pub tells : (s : Service) (client : List ℕ) (ask : DssAsk) → TellsOfState s client ask (service_step s client ask).0
 tells s client ask = go (refusal_of s client ask) refl
   where
-    go : (x : Option DssRefusal) → refusal_of s client ask ≡ x → Tells s client ask (unless_refused s (accepted s client ask) x).0
+    go : (x : Option DssRefusal) → refusal_of s client ask ≡ x → TellsOfState s client ask (unless_refused s (accepted s client ask) x).0
     go None e = accepted_tells s client ask
     go (Some r) e = inl e
 

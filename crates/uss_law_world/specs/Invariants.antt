@@ -78,7 +78,7 @@ pub record EachLandingIsTried (w : World) : Type 0 where
 
 -- the reference that a supplier is shown with its OVN is that of an attempt of the supplier as it landed, and its version counts the
 -- flight's landings up to this one
-pub record IsShown (w : World) (s : ℕ) (r : Reference) (ovn : List ℕ) : Type 0 where
+pub record IsShownAsLanded (w : World) (s : ℕ) (r : Reference) (ovn : List ℕ) : Type 0 where
   pub landing : Landing
   pub landed : Has w.service.landings landing
   pub ovn_is : landing.ovn ≡ ovn
@@ -92,26 +92,26 @@ pub record IsShown (w : World) (s : ℕ) (r : Reference) (ovn : List ℕ) : Type
 
 -- and so it is wherever a reference shows an OVN
 abbrev pub ShowsLanding : World → ℕ → Reference → Type 0
-ShowsLanding w s r = (ovn : List ℕ) → r.ovn ≡ Some ovn → IsShown w s r ovn
+ShowsLanding w s r = (ovn : List ℕ) → r.ovn ≡ Some ovn → IsShownAsLanded w s r ovn
 
 abbrev pub AreShown : World → ℕ → List Reference → Type 0
 AreShown w s references = (r : Reference) → Has references r → ShowsLanding w s r
 
 -- the supplier's ticket is there
-pub record IsThere (w : World) (s ticket : ℕ) : Type 0 where
+pub record IsTicketThere (w : World) (s ticket : ℕ) : Type 0 where
   pub found : Ticket
   pub there : Has w.service.tickets found
   pub id : found.id ≡ ticket
   pub manager : found.manager ≡ name_of s w
 
 -- the supplier's ticket is there, or was removed
-abbrev pub IsThereOrGone : World → ℕ → ℕ → Type 0
-IsThereOrGone w s ticket = IsThere w s ticket ⊎ (is_one_of ticket w.service.retired_tickets ≡ true)
+abbrev pub IsTicketThereOrGone : World → ℕ → ℕ → Type 0
+IsTicketThereOrGone w s ticket = IsTicketThere w s ticket ⊎ (is_one_of ticket w.service.retired_tickets ≡ true)
 
 -- the ticket that a call is to make is there, or was removed since
-abbrev pub IsMadeBy : World → ℕ → DssAsk → Type 0
-IsMadeBy w s (Asks.TicketPut ticket area base) = IsThereOrGone w s ticket
-IsMadeBy w s _ = Unit {0}
+abbrev pub IsTicketMadeOf : World → ℕ → DssAsk → Type 0
+IsTicketMadeOf w s (Asks.TicketPut ticket area base) = IsTicketThereOrGone w s ticket
+IsTicketMadeOf w s _ = Unit {0}
 
 -- the flight, or the ticket, that a call names was removed
 abbrev pub IsRemovedOf : World → DssAsk → Type 0
@@ -130,10 +130,10 @@ IsSo w s ask (Replies.Found references) = AreShown w s references
 IsSo w s ask (Replies.Got r) = ShowsLanding w s r
 IsSo w s ask (Replies.Landed r subscribers) = ShowsLanding w s r
 IsSo w s ask (Replies.Removed r subscribers) = ShowsLanding w s r × IsRemovedOf w ask
-IsSo w s ask (Replies.TicketMade t) = IsMadeBy w s ask
+IsSo w s ask (Replies.TicketMade t) = IsTicketMadeOf w s ask
 IsSo w s ask (Replies.TicketGot t) = Unit {0}
 IsSo w s ask (Replies.TicketRemoved t) = IsRemovedOf w ask
-IsSo w s ask (Replies.Refused Refuses.Exists) = IsMadeBy w s ask
+IsSo w s ask (Replies.Refused Refuses.Exists) = IsTicketMadeOf w s ask
 IsSo w s ask (Replies.Refused Refuses.Retired) = IsRemovedOf w ask
 IsSo w s ask (Replies.Refused (Refuses.MissingKey references)) = AreShown w s references
 IsSo w s ask (Replies.Refused _) = Unit {0}
