@@ -1,5 +1,5 @@
 -- A step of a supplier that keeps its duties keeps what holds.
-use Rattle.std.proofs.Common.{ℕ, ◌≡◌, ◌⊎◌, inl, inr, ◌==◌, ◌&&◌, Bool, true, false, cond, List, [], ◌∷◌, ◌++◌, refl, ap, sym, subst, ◌∙◌, Option, Some, None, IfSome, is_some, map, unwrap_or}
+use Rattle.std.proofs.Common.{ℕ, ◌≡◌, ◌⊎◌, inl, inr, ◌==◌, Bool, true, false, cond, List, [], ◌∷◌, ◌++◌, refl, ap, sym, subst, ◌∙◌, Option, Some, None, IfSome, is_some, map, unwrap_or}
 use Rattle.std.proofs.lemmas.List.{append-nil}
 use Rattle.uss_intent.specs.Identifiers.{flight_number, ticket_number}
 use Rattle.uss_intent.specs.Tags.{tag_of}
@@ -25,19 +25,15 @@ use Rattle.uss_event.specs.declared.calls.PeerCall.{PeerCall}
 use Rattle.uss_event.specs.declared.calls.PeerCall.TheVariants as Calls
 use Rattle.uss_event.specs.declared.calls.PeerReply.{PeerReply}
 use Rattle.uss_event.specs.declared.calls.PeerReply.TheVariants as Peers
-use Rattle.uss_event.specs.declared.calls.Outgoing.{Outgoing}
-use Rattle.uss_event.specs.declared.calls.Outgoing.TheVariants as Goes
 use Rattle.uss_event.specs.declared.calls.Note.{Note}
-use Rattle.uss_event.specs.declared.events.Answer.{Answer}
-use Rattle.uss_event.specs.declared.events.Said.{Said}
 use Rattle.uss_event.specs.declared.events.Said.TheVariants as Says
 use Rattle.uss_event.specs.declared.events.Event.{Event}
 use Rattle.uss_event.specs.declared.events.Event.TheVariants as Events
 use Rattle.uss_law_dss.specs.Lists.{Has}
-use Rattle.uss_law_dss.proofs.Lists.{has_append, has_push, has_map, find_has, list_any_has, has_filtered}
-use Rattle.uss_law_dss.proofs.Tests.{some_same, same_number, equal_number, both, either}
+use Rattle.uss_law_dss.proofs.Lists.{has_append, has_push, has_map, list_any_has, has_filtered}
+use Rattle.uss_law_dss.proofs.Tests.{some_same, same_number, equal_number, either}
 use Rattle.uss_law_book.specs.Lists.{owner_of, Opening, Trial, Holding, Closing, openings, trials, holdings, endings}
-use Rattle.uss_law_book.specs.Readings.{opening_of, trial_of, holding_of, ending_of, holding, is_held, is_done, is_closed, is_ended, decision_of, trials_of, base_of}
+use Rattle.uss_law_book.specs.Readings.{holding, is_held, is_done, is_closed, is_ended, decision_of, trials_of, base_of}
 use Rattle.uss_law_book.specs.Attempts.{Attempted, attempt_of, held, held_by, recorded_as}
 use Rattle.uss_law_book.specs.Legal.{IsLegal, IsDue, MayFollow, EndsFlight, EndsWish}
 use Rattle.uss_law_book.specs.Orderly.{IsOrderly}
@@ -48,20 +44,23 @@ use Rattle.uss_law_book.proofs.Held.{held_of, base_is}
 use Rattle.uss_law_book.proofs.EachOrderly.{legal_is_orderly}
 use Rattle.uss_law_duty.specs.Heard.{News, brought, by_reply, by_pair}
 use Rattle.uss_law_duty.specs.Heard.News.{Heard}
-use Rattle.uss_law_duty.specs.Answers.{flight_of, by_trial, by_end, by_close, kept_answer, job_of_request, job_of_call, job_named}
-use Rattle.uss_law_duty.specs.Sends.{MayLose, RecordsAreDue, RemovalsAreDue, IsHeldPair, NotesAreHeld, OfDss, OfPeer, ticket_remove}
+use Rattle.uss_law_duty.specs.Answers.{flight_of}
+use Rattle.uss_law_duty.specs.Sends.{MayLose, RecordsAreDue, TicketsAreDue, RemovalsAreDue, IsHeldPair, NotesAreHeld, OfDss, OfPeer, ticket_remove}
 use Rattle.uss_law_duty.specs.Entered.{candidate_of, Answers, IsKnown, KeyIsClear, shown_tag, ShowsRecord, HoldsByReply, HeldIsShown, IsRemoved, IsTicketRemoved, EndsByReply, LosesByReply, EndsAs, RemovalIsShown}
-use Rattle.uss_law_duty.specs.Sayings.{PairIsHeld, FinalIsKept}
+use Rattle.uss_law_duty.specs.Sayings.{PairIsHeld}
 use Rattle.uss_law_duty.specs.Duties.{book_after, MayStep, Choice, clamped}
 use Rattle.uss_law_duty.proofs.Stays.{step_is_legal}
 use Rattle.uss_law_world.specs.World.{Supplier, Post, Saying, World, supplier_in, book_in, heard_in, name_in, book_of, heard_of, name_of, post_of}
 use Rattle.uss_law_world.specs.World.Post.{Called, Replied, Asked, Answered}
-use Rattle.uss_law_world.specs.Moves.{Asker, Arrival, pair_reply, reply_by, answer_with, answer_to, posts_of, request_of, request_named, saying_of, stepped, after_step}
+use Rattle.uss_law_world.specs.Moves.{Arrival, answer_to, posts_of, request_named, saying_of, stepped, after_step}
 use Rattle.uss_law_world.specs.Free.{AreSuppliers}
 use Rattle.uss_law_world.specs.Claims.{tag_in}
 use Rattle.uss_law_world.proofs.Books.{based}
 use Rattle.uss_law_world.proofs.Lookups.{at_each, same_supplier}
-use Rattle.uss_law_world.proofs.Facts.{IsSound, HasLanding, IsMade, CallFrom, ShowsLanding, RetiredBy, ReplyShows, IsClearOvn, IsFlightRetired, IsUntried, EndingShows, IsByHolding, IsByClosing, SaidIsKept, Facts}
+use Rattle.uss_law_world.specs.Invariants.{HasLegalBook, WasDue, ShowsLanding, IsRemovedOf}
+use Rattle.uss_law_world.proofs.Answering.{says}
+use Rattle.uss_law_world.proofs.Sendings.{sent_call, sent_reply, sent_answer, sent_peer, answered, served_said}
+use Rattle.uss_law_world.proofs.Facts.{HasLanding, IsPairLanded, CallFrom, ReplyShows, IsClearOfPair, IsFlightRetired, IsUntried, EndingShows, SaidIsKept, Facts}
 use Rattle.uss_law_world.proofs.Grows.{Grows, News as Changes, kept, opening, made, has_landing, entered_still}
 use Rattle.uss_law_world.proofs.Parts.{Stands, stands, by_the_wish}
 
@@ -80,49 +79,12 @@ Comes w s (Events.Peer call reply) = (k : ℕ) × Has w.posts (Answered s k call
 Comes w s (Events.Notified client note) = IsNoted w note
 Comes w s _ = Unit {0}
 
--- which sends give which messages
-sent_call : (xs : List Supplier) (s : ℕ) (x : Outgoing) (k : ℕ) (call : DssCall) → post_of xs s x ≡ Called k call → (s ≡ k) × (x ≡ Goes.Dss call)
-sent_call xs s (Goes.Dss c) k call e = (cc, cc)
-sent_call xs s (Goes.Peer c) k call e = cc
-
-sent_reply : {P : Type 0} (xs : List Supplier) (s : ℕ) (x : Outgoing) (k n : ℕ) (call : DssCall) (reply : DssReply) → post_of xs s x ≡ Replied k n call reply → P
-sent_reply xs s (Goes.Dss c) k n call reply e = cc
-sent_reply xs s (Goes.Peer c) k n call reply e = cc
-
-sent_answer : {P : Type 0} (xs : List Supplier) (s : ℕ) (x : Outgoing) (k n : ℕ) (call : PeerCall) (reply : PeerReply) → post_of xs s x ≡ Answered k n call reply → P
-sent_answer xs s (Goes.Dss c) k n call reply e = cc
-sent_answer xs s (Goes.Peer c) k n call reply e = cc
-
-sent_peer : (xs : List Supplier) (s : ℕ) (x : Outgoing) (k : ℕ) (to : Option ℕ) (call : PeerCall) → post_of xs s x ≡ Asked k to call → (s ≡ k) × (x ≡ Goes.Peer call)
-sent_peer xs s (Goes.Dss c) k to call e = cc
-sent_peer xs s (Goes.Peer c) k to call e = (cc, cc)
-
--- an answer is a reply to a call of another supplier
-answers_with : (asker : Asker) (x : Option PeerReply) (p : Post) → Has (answer_with asker x) p → (reply : PeerReply) × (x ≡ Some reply) × (Answered asker.from asker.number asker.call reply ≡ p)
-answers_with asker None p h = absurd h
-answers_with asker (Some reply) p (inl e) = (reply, refl, e)
-answers_with asker (Some reply) p (inr n) = absurd n
-
-answered : (asker : Option Asker) (said : Said) (p : Post) → Has (answer_to asker said) p → (a : Asker) × (reply : PeerReply) × (reply_by said ≡ Some reply) × (Answered a.from a.number a.call reply ≡ p)
-answered None said p h = absurd h
-answered (Some a) said p h = let x = answers_with a (reply_by said) p h in (a, x.0, x.1, x.2)
-
-served_reply : (x : Option OperationalIntent) (p : OperationalIntent) → pair_reply x ≡ Peers.Served p → x ≡ Some p
-served_reply None p e = cc
-served_reply (Some q) p e = cc
-
-served_said : (said : Said) (p : OperationalIntent) → reply_by said ≡ Some (Peers.Served p) → said ≡ Says.Pair (Some p)
-served_said (Says.Pair pair) p e = ap Says.Pair (served_reply pair p (some_same (pair_reply pair) (Peers.Served p) e))
-served_said Says.Noted p e = cc
-served_said Says.NotManager p e = cc
-served_said _ p e = cc
-
 -- what a held pair is, of a book whose records landed
-pub held_made : (w : World) (s : ℕ) (book : List Entry) → IsOrderly book → book_of s w ≡ book → ((h : Holding) → Has (holdings book) h → HasLanding w s h.tag h.ovn h.version) → (p : OperationalIntent) → IsHeldPair book p → IsMade w p
+pub held_made : (w : World) (s : ℕ) (book : List Entry) → IsOrderly book → book_of s w ≡ book → ((h : Holding) → Has (holdings book) h → HasLanding w s h.tag h.ovn h.version) → (p : OperationalIntent) → IsHeldPair book p → IsPairLanded w p
 unfolding held
 held_made w s book o e lands p q = go (holding q.flight book) refl
   where
-    go : (x : Option Holding) → holding q.flight book ≡ x → IsMade w p
+    go : (x : Option Holding) → holding q.flight book ≡ x → IsPairLanded w p
     go None f = let n : None ≡ Some p = sym (ap (held_by book) f) ∙ q.is in cc
     go (Some h) f =
         let k = held_of book q.flight h o f in
@@ -194,6 +156,7 @@ module _ (table : List ℕ) (owners : List Owner) (w : World) (names : AreSuppli
         ranks = λ flight l h. refl;
         flights = λ n h. h;
         tickets = λ n h. h;
+        there = λ t h. inl (record { found = t; there = h; id = refl; manager = refl });
       }
     where
       more_of : (entry : Option Entry) → (more : List Entry) × (book_after book entry ≡ book ++ more)
@@ -223,7 +186,7 @@ module _ (table : List ℕ) (owners : List Owner) (w : World) (names : AreSuppli
           subst (λ z. ReplyShows w s job ask z) h.2 (subst (λ z. ReplyShows w s job z given) h.1 (subst (λ z. ReplyShows w s z call.ask given) h.0 x))
       go _ h k = absurd h
 
-  came_news : (p : OperationalIntent) → Has (brought a.event) (Heard p) → IsMade w p
+  came_news : (p : OperationalIntent) → Has (brought a.event) (Heard p) → IsPairLanded w p
   came_news p h = go a.event h came
     where
       by_note : (flight : ℕ) (x : Option OperationalIntent) → Has (by_pair flight x) (Heard p) → x ≡ Some p
@@ -232,17 +195,17 @@ module _ (table : List ℕ) (owners : List Owner) (w : World) (names : AreSuppli
       by_note flight (Some q) (inl e) = cc
       by_note flight (Some q) (inr n) = absurd n
 
-      by_serving : (call : PeerCall) (reply : PeerReply) → Has (by_reply reply) (Heard p) → (k : ℕ) × Has w.posts (Answered s k call reply) → IsMade w p
-      by_serving call (Peers.Served q) (inl e) k = let f : q ≡ p = cc in subst (IsMade w) f (j.served s k.0 call q k.1)
+      by_serving : (call : PeerCall) (reply : PeerReply) → Has (by_reply reply) (Heard p) → (k : ℕ) × Has w.posts (Answered s k call reply) → IsPairLanded w p
+      by_serving call (Peers.Served q) (inl e) k = let f : q ≡ p = cc in subst (IsPairLanded w) f (j.served s k.0 call q k.1)
       by_serving call (Peers.Served q) (inr n) k = absurd n
       by_serving call _ h k = absurd h
 
-      go : (e : Event) → Has (brought e) (Heard p) → Comes w s e → IsMade w p
+      go : (e : Event) → Has (brought e) (Heard p) → Comes w s e → IsPairLanded w p
       go (Events.Peer call reply) h k = by_serving call reply h k
       go (Events.Notified client note) h k = j.notes k.from k.to k.job k.place k.base note p k.sent (by_note note.flight note.pair h)
       go _ h k = absurd h
 
-  heard_made : (p : OperationalIntent) → Has (heard_of s w ++ brought a.event) (Heard p) → IsMade w p
+  heard_made : (p : OperationalIntent) → Has (heard_of s w ++ brought a.event) (Heard p) → IsPairLanded w p
   heard_made p h = elim (has_append (heard_of s w) (brought a.event) (Heard p) h) [ inl old ↦ j.heard s p old | inr new ↦ came_news p new ]
 
   -- what is entered as held
@@ -264,7 +227,10 @@ module _ (table : List ℕ) (owners : List Owner) (w : World) (names : AreSuppli
   held_landing job tag ovn version h =
       let x = came_reply job h.ask h.reply h.answers in
       let y = shows_landing job tag h.ask h.reply h.reference x h.shows in
-      subst (λ z. HasLanding w s z ovn version) (tag_shown h.reference tag ovn h.tag_is h.ovn_is) (subst (λ z. HasLanding w s (tag_in h.reference) ovn z) h.version_is (y ovn h.ovn_is))
+      let k = y ovn h.ovn_is in
+      let n : HasLanding w s (tag_in h.reference) ovn h.reference.version =
+      record { landing = k.landing; landed = k.landed; ovn = k.ovn_is; manager = k.manager; tag_is = k.tag; rank = k.version } in
+      subst (λ z. HasLanding w s z ovn version) (tag_shown h.reference tag ovn h.tag_is h.ovn_is) (subst (λ z. HasLanding w s (tag_in h.reference) ovn z) h.version_is n)
 
   new_held : (e : Entry) → HeldIsShown m.acts.owner book a.event e → (h : Holding) → Has (holdings (e ∷ [])) h → HasLanding w s h.tag h.ovn h.version
   new_held (Enters.Held job tag ovn version owed) d h (inl q) = subst (λ (z : Holding). HasLanding w s z.tag z.ovn z.version) q (held_landing job tag ovn version d)
@@ -282,10 +248,10 @@ module _ (table : List ℕ) (owners : List Owner) (w : World) (names : AreSuppli
   landed_after h k = has_landing grows s h.tag h.ovn h.version (elim (held_after h k) [ inl old ↦ j.entered s h old | inr new ↦ new ])
 
   -- a held pair is made
-  pair_after : (p : OperationalIntent) → IsHeldPair after p → IsMade v p
+  pair_after : (p : OperationalIntent) → IsHeldPair after p → IsPairLanded v p
   pair_after p h = held_made v s after (legal_is_orderly after legal_after) after_is landed_after p h
 
-  pair_before : (p : OperationalIntent) → IsHeldPair book p → IsMade w p
+  pair_before : (p : OperationalIntent) → IsHeldPair book p → IsPairLanded w p
   pair_before p h = held_made w s book orderly refl (j.entered s) p h
 
   -- the calls
@@ -358,6 +324,29 @@ module _ (table : List ℕ) (owners : List Owner) (w : World) (names : AreSuppli
     | inr told ↦ (let x = answered a.asker c.said (Called k call) told in let e = x.3 in cc)
   ]
 
+  owned_after : (entry : Option Entry) → owner_of (book_after book entry) ≡ Some m.acts.owner
+  owned_after None = m.acts.owns_book
+  owned_after (Some e) = owner_kept book (e ∷ []) m.acts.owner m.acts.owns_book
+
+  new_due : (k : ℕ) (call : DssCall) → Has posts (Called k call) → WasDue v k call
+  new_due k call h = elim (has_append (map (post_of w.suppliers s) c.sends) (answer_to a.asker c.said) (Called k call) (sub (Called k call) h)) [
+    | inl sent ↦ (
+        let x = has_map (post_of w.suppliers s) c.sends (Called k call) sent in
+        let y = sent_call w.suppliers s x.0 k call x.2 in
+        subst (λ z. WasDue v z call) y.0 (record {
+          before = after;
+          more = [];
+          book_is = after_is ∙ sym (append-nil after);
+          owner = m.acts.owner;
+          owns_book = owned_after c.entry;
+          number = number_is;
+          records = subst (OfDss (RecordsAreDue m.acts.owner after)) y.1 (m.acts.records x.0 x.1);
+          tickets = subst (OfDss (TicketsAreDue m.acts.owner after)) y.1 (m.acts.ticket_calls x.0 x.1);
+          ticket_removals = subst (OfDss (RemovalsAreDue m.acts.owner after)) y.1 (m.acts.ticket_removals x.0 x.1);
+        }))
+    | inr told ↦ (let x = answered a.asker c.said (Called k call) told in let e = x.3 in cc)
+  ]
+
   no_reply : {P : Type 0} (k n : ℕ) (call : DssCall) (reply : DssReply) → Has posts (Replied k n call reply) → P
   no_reply k n call reply h = elim (has_append (map (post_of w.suppliers s) c.sends) (answer_to a.asker c.said) (Replied k n call reply) (sub (Replied k n call reply) h)) [
     | inl sent ↦ (let x = has_map (post_of w.suppliers s) c.sends (Replied k n call reply) sent in sent_reply w.suppliers s x.0 k n call reply x.2)
@@ -367,7 +356,7 @@ module _ (table : List ℕ) (owners : List Owner) (w : World) (names : AreSuppli
   served_is : (f n k i : ℕ) (call call' : PeerCall) (x y : PeerReply) → Answered f n call x ≡ Answered k i call' y → x ≡ y
   served_is f n k i call call' x y e = cc
 
-  new_served : (k n : ℕ) (call : PeerCall) (p : OperationalIntent) → Has posts (Answered k n call (Peers.Served p)) → IsMade v p
+  new_served : (k n : ℕ) (call : PeerCall) (p : OperationalIntent) → Has posts (Answered k n call (Peers.Served p)) → IsPairLanded v p
   new_served k n call p h = elim (has_append (map (post_of w.suppliers s) c.sends) (answer_to a.asker c.said) (Answered k n call (Peers.Served p)) (sub (Answered k n call (Peers.Served p)) h)) [
     | inl sent ↦ (let x = has_map (post_of w.suppliers s) c.sends (Answered k n call (Peers.Served p)) sent in sent_answer w.suppliers s x.0 k n call (Peers.Served p) x.2)
     | inr told ↦ (
@@ -378,7 +367,13 @@ module _ (table : List ℕ) (owners : List Owner) (w : World) (names : AreSuppli
         pair_after p g)
   ]
 
-  new_note : (k : ℕ) (to : Option ℕ) (job place : ℕ) (base : List ℕ) (note : Note) (p : OperationalIntent) → Has posts (Asked k to (Calls.Notify job place base note)) → note.pair ≡ Some p → IsMade v p
+  new_said : (x : Saying) (p : OperationalIntent) → saying_of a c after ≡ x → x.said ≡ Says.Pair (Some p) → IsPairLanded v p
+  new_said x p f e =
+      let g : c.said ≡ Says.Pair (Some p) = ap (λ (z : Saying). z.said) f ∙ e in
+      let h : PairIsHeld after (Says.Pair (Some p)) = subst (PairIsHeld after) g m.acts.pair in
+      pair_after p h
+
+  new_note : (k : ℕ) (to : Option ℕ) (job place : ℕ) (base : List ℕ) (note : Note) (p : OperationalIntent) → Has posts (Asked k to (Calls.Notify job place base note)) → note.pair ≡ Some p → IsPairLanded v p
   new_note k to job place base note p h e = elim (has_append (map (post_of w.suppliers s) c.sends) (answer_to a.asker c.said) (Asked k to (Calls.Notify job place base note)) (sub (Asked k to (Calls.Notify job place base note)) h)) [
     | inl sent ↦ (
         let x = has_map (post_of w.suppliers s) c.sends (Asked k to (Calls.Notify job place base note)) sent in
@@ -390,7 +385,7 @@ module _ (table : List ℕ) (owners : List Owner) (w : World) (names : AreSuppli
   ]
 
   -- what is heard
-  new_heard : (p : OperationalIntent) → Has c.heard (Heard p) → IsMade w p
+  new_heard : (p : OperationalIntent) → Has c.heard (Heard p) → IsPairLanded w p
   new_heard p h = elim m.hears [
     | inl same ↦ j.heard s p (subst (λ z. Has z (Heard p)) same h)
     | inr more ↦ heard_made p (subst (λ z. Has z (Heard p)) more h)
@@ -398,7 +393,7 @@ module _ (table : List ℕ) (owners : List Owner) (w : World) (names : AreSuppli
 
   -- a new attempt's key is clear
   new_clear : (e : Entry) → KeyIsClear m.acts.owner book (heard_of s w) a.event e → IsDue book e → (t : Trial) → Has (trials (e ∷ [])) t → (tag : ℕ) (x : Attempted) → t.tag ≡ tag → attempt_of tag (book ++ e ∷ []) ≡ Some x
-      → x.key ≡ t.key → x.previous ≡ t.previous → is_strategic x.state ≡ true → (o : List ℕ) → Has x.key o → IsClearOvn table v x o
+      → x.key ≡ t.key → x.previous ≡ t.previous → is_strategic x.state ≡ true → (o : List ℕ) → Has x.key o → IsClearOfPair table v x o
   new_clear (Enters.Pending job tag' alternative previous key) k d t (inl q) tag x n f key_is previous_is strategic o h =
       let i : attempt_of tag' (book ++ Enters.Pending job tag' alternative previous key ∷ []) ≡ Some x =
       subst (λ z. attempt_of z (book ++ Enters.Pending job tag' alternative previous key ∷ []) ≡ Some x) (sym n ∙ ap (λ (z : Trial). z.tag) (sym q)) f in
@@ -417,21 +412,21 @@ module _ (table : List ℕ) (owners : List Owner) (w : World) (names : AreSuppli
         clear = subst (λ z. verdict z (candidate_of x) y.pair (held d.opening.ask.flight book) ≡ Clear) tb y.clear;
       }
     where
-      known : (p : OperationalIntent) → IsKnown book (heard_of s w) a.event p → IsMade w p
+      known : (p : OperationalIntent) → IsKnown book (heard_of s w) a.event p → IsPairLanded w p
       known p (inl z) = heard_made p z
       known p (inr z) = pair_before p z
 
-      held_before : (z : Option OperationalIntent) (flight : ℕ) → held flight book ≡ z → IfSome z (IsMade v)
+      held_before : (z : Option OperationalIntent) (flight : ℕ) → held flight book ≡ z → IfSome z (IsPairLanded v)
       held_before None flight e = tt
       held_before (Some p) flight e = made grows p (pair_before p (record { flight = flight; is = e }))
   new_clear (Enters.Pending job tag' alternative previous key) k d t (inr z) tag x n f key_is previous_is strategic o h = absurd z
   new_clear _ k d t z tag x n f key_is previous_is strategic o h = absurd z
 
-  attempt_after : (tag : ℕ) (x : Attempted) → attempt_of tag after ≡ Some x → (attempt_of tag book ≡ Some x) ⊎ (is_strategic x.state ≡ true → (o : List ℕ) → Has x.key o → IsClearOvn table v x o)
+  attempt_after : (tag : ℕ) (x : Attempted) → attempt_of tag after ≡ Some x → (attempt_of tag book ≡ Some x) ⊎ (is_strategic x.state ≡ true → (o : List ℕ) → Has x.key o → IsClearOfPair table v x o)
   attempt_after tag x f = go c.entry m.keys m.acts.legal f
     where
       go : (entry : Option Entry) → IfSome entry (KeyIsClear m.acts.owner book (heard_of s w) a.event) → IfSome entry (MayFollow book) → attempt_of tag (book_after book entry) ≡ Some x
-          → (attempt_of tag book ≡ Some x) ⊎ (is_strategic x.state ≡ true → (o : List ℕ) → Has x.key o → IsClearOvn table v x o)
+          → (attempt_of tag book ≡ Some x) ⊎ (is_strategic x.state ≡ true → (o : List ℕ) → Has x.key o → IsClearOfPair table v x o)
       go None k l f = inl f
       go (Some e) k l f =
           let p = parts tag (book ++ e ∷ []) x f in
@@ -447,12 +442,12 @@ module _ (table : List ℕ) (owners : List Owner) (w : World) (names : AreSuppli
           ]
 
   -- the end of a job
-  retired_by : (job : ℕ) (ask : DssAsk) (reply : DssReply) → ReplyShows w s job ask reply → IsRemoved reply → RetiredBy w ask
-  retired_by job ask (Replies.Removed r subscribers) x h = x
+  retired_by : (job : ℕ) (ask : DssAsk) (reply : DssReply) → ReplyShows w s job ask reply → IsRemoved reply → IsRemovedOf w ask
+  retired_by job ask (Replies.Removed r subscribers) x h = x.1
   retired_by job ask (Replies.Refused refusal) x h = x.retired h
   retired_by job ask _ x h = absurd h
 
-  ticket_retired_by : (job : ℕ) (ask : DssAsk) (reply : DssReply) → ReplyShows w s job ask reply → IsTicketRemoved reply → RetiredBy w ask
+  ticket_retired_by : (job : ℕ) (ask : DssAsk) (reply : DssReply) → ReplyShows w s job ask reply → IsTicketRemoved reply → IsRemovedOf w ask
   ticket_retired_by job ask (Replies.TicketRemoved t) x h = x
   ticket_retired_by job ask (Replies.Refused refusal) x h = x.retired h
   ticket_retired_by job ask _ x h = absurd h
@@ -461,12 +456,13 @@ module _ (table : List ℕ) (owners : List Owner) (w : World) (names : AreSuppli
   end_flight job h =
       let q = h.its_call in
       let x = retired_by job h.ask h.reply (came_reply job h.ask h.reply h.answers) h.removed in
-      let y : is_one_of (flight_number m.acts.owner.number q.opening.ask.flight) w.service.retired_flights ≡ true = subst (RetiredBy w) q.is x in
+      let y : is_one_of (flight_number m.acts.owner.number q.opening.ask.flight) w.service.retired_flights ≡ true = subst (IsRemovedOf w) q.is x in
       let i = opening_has book job q.opening q.opened in
       record {
         opening = q.opening;
         opened = opening grows s q.opening i.0;
         job_is = i.1;
+        end = q.end;
         retired = subst (λ n. is_one_of (flight_number n q.opening.ask.flight) w.service.retired_flights ≡ true) number_is y;
       }
 
@@ -521,77 +517,19 @@ module _ (table : List ℕ) (owners : List Owner) (w : World) (names : AreSuppli
       ]
 
   -- what is said
-  keeps_answer : (o : Opening) (answer : Answer) → kept_answer m.acts.owner o after ≡ Some answer → IsByHolding after s o answer ⊎ IsByClosing after s o answer
-  unfolding kept_answer holding_of ending_of
-  keeps_answer o answer h = go (holding_of o.job after) refl (ending_of o.job after) refl (subst (λ n. by_close after (flight_number n o.ask.flight) (holding_of o.job after) (ending_of o.job after) ≡ Some answer) number_is h)
-    where
-      at_trial : (k : Holding) → Has (holdings after) k → k.job ≡ o.job → (t : Option Trial) → trial_of k.tag after ≡ t → by_trial (flight_number s o.ask.flight) k t ≡ Some answer → IsByHolding after s o answer
-      at_trial k i e None q f = cc
-      at_trial k i e (Some t) q f = record { holding = k; trial = t; entered = i; job = e; tried = q; is = f }
-
-      go : (x : Option Holding) → holding_of o.job after ≡ x → (y : Option Closing) → ending_of o.job after ≡ y → by_close after (flight_number s o.ask.flight) x y ≡ Some answer
-          → IsByHolding after s o answer ⊎ IsByClosing after s o answer
-      go (Some k) e y f q =
-          let i = find_has (λ (z : Holding). z.job == o.job) (holdings after) k e in
-          inl (at_trial k i.0 (same_number k.job o.job i.1) (trial_of k.tag after) refl q)
-      go None e (Some d) f q =
-          let i = find_has (λ (z : Closing). z.job == o.job) (endings after) d f in
-          inr (record { closing = d; entered = i.0; job = same_number d.job o.job i.1; is = some_same (by_end (flight_number s o.ask.flight) d.end) answer q })
-      go None e None f q = cc
-
-  -- the opening that an event names
-  record IsNamed (flight number : ℕ) (o : Opening) : Type 0 where
-    there : Has (openings after) o
-    flight_is : o.ask.flight ≡ flight
-    number_is : o.ask.number ≡ number
-
-  requested : (flight number : ℕ) (o : Opening) → job_of_request flight number after ≡ Some o → IsNamed flight number o
-  unfolding job_of_request
-  requested flight number o h =
-      let f = find_has (λ (z : Opening). (z.ask.flight == flight) && (z.ask.number == number)) (openings after) o h in
-      let b = both (o.ask.flight == flight) (o.ask.number == number) f.1 in
-      record { there = f.0; flight_is = same_number o.ask.flight flight b.0; number_is = same_number o.ask.number number b.1 }
-
-  opened_as : (job : ℕ) (o : Opening) → opening_of job after ≡ Some o → IsNamed (request_of (opening_of job after)).0 (request_of (opening_of job after)).1 o
-  opened_as job o h =
-      let i = opening_has after job o h in
-      let e : request_of (opening_of job after) ≡ (o.ask.flight, o.ask.number) = ap request_of h in
-      record { there = i.0; flight_is = ap (λ (z : ℕ × ℕ). z.0) (sym e); number_is = ap (λ (z : ℕ × ℕ). z.1) (sym e) }
-
-  named : (event : Event) (o : Opening) → job_named event after ≡ Some o → IsNamed (request_named event after).0 (request_named event after).1 o
-  named (Events.Ask ask) o h = requested ask.flight ask.number o h
-  named (Events.Cancel flight number) o h = requested flight number o h
-  named (Events.Position ask) o h = requested ask.flight ask.number o h
-  named (Events.Sweep skip) o h = cc
-  named (Events.Dss call reply) o h = opened_as call.job o h
-  named (Events.Peer call reply) o h = opened_as (job_of_call call) o h
-  named (Events.Failed job) o h = opened_as job o h
-  named (Events.Details client flight) o h = cc
-  named (Events.Notified client note) o h = cc
-
-  says : (said : Said) → FinalIsKept m.acts.owner after a.event said → SaidIsKept after s (request_named a.event after).0 (request_named a.event after).1 said
-  says (Says.Answer answer) f = λ final. (let k = f final in let n = named a.event k.opening k.named in record {
-    opening = k.opening;
-    opened = n.there;
-    flight_is = n.flight_is;
-    number_is = n.number_is;
-    keeps = keeps_answer k.opening answer k.kept;
-  })
-  says _ f = tt
-
   new_saying : (x : Saying) → saying_of a c after ≡ x → SaidIsKept (book_of x.supplier v) x.supplier x.flight x.number x.said
   new_saying x e =
       subst (λ (z : Saying). SaidIsKept (book_of z.supplier v) z.supplier z.flight z.number z.said) e
-      (subst (λ b. SaidIsKept b s (request_named a.event after).0 (request_named a.event after).1 c.said) (sym after_is) (says c.said m.acts.final))
+      (subst (λ b. SaidIsKept b s (request_named a.event after).0 (request_named a.event after).1 c.said) (sym after_is) (says m.acts.owner s number_is after a.event c.said m.acts.final))
 
-  sound : (k : ℕ) (x : Supplier) → supplier_in k v.suppliers ≡ Some x → IsSound owners x
-  sound k = at_each s (stepped c) w.suppliers own.0 (λ x. refl) st.is k (λ o. (x : Supplier) → o ≡ Some x → IsSound owners x) (λ e x f. here x f) (j.suppliers k)
+  sound : (k : ℕ) (x : Supplier) → supplier_in k v.suppliers ≡ Some x → HasLegalBook owners x
+  sound k = at_each s (stepped c) w.suppliers own.0 (λ x. refl) st.is k (λ o. (x : Supplier) → o ≡ Some x → HasLegalBook owners x) (λ e x f. here x f) (j.suppliers k)
     where
       own_after : (entry : Option Entry) → owner_of (book_after book entry) ≡ Some own.0.owner
       own_after None = st.own
       own_after (Some e) = owner_kept book (e ∷ []) own.0.owner st.own
 
-      now : IsSound owners (stepped c own.0)
+      now : HasLegalBook owners (stepped c own.0)
       now =
           record {
             legal = subst (λ b. IsLegal (book_after b c.entry)) st.book_is legal_after;
@@ -599,8 +537,8 @@ module _ (table : List ℕ) (owners : List Owner) (w : World) (names : AreSuppli
             one = st.one;
           }
 
-      here : (x : Supplier) → Some (stepped c own.0) ≡ Some x → IsSound owners x
-      here x f = subst (IsSound owners) (some_same (stepped c own.0) x f) now
+      here : (x : Supplier) → Some (stepped c own.0) ≡ Some x → HasLegalBook owners x
+      here x f = subst (HasLegalBook owners) (some_same (stepped c own.0) x f) now
 
   act_news : Changes table owners w v
   act_news =
@@ -609,12 +547,14 @@ module _ (table : List ℕ) (owners : List Owner) (w : World) (names : AreSuppli
         service = j.service;
         suppliers = sound;
         calls = λ k call h. elim (has_append w.posts posts (Called k call) h) [ inl old ↦ inl old | inr new ↦ inr (new_call k call new) ];
+        due = λ k call h. elim (has_append w.posts posts (Called k call) h) [ inl old ↦ inl old | inr new ↦ inr (new_due k call new) ];
         replies = λ k n call reply h. elim (has_append w.posts posts (Replied k n call reply) h) [ inl old ↦ inl old | inr new ↦ no_reply k n call reply new ];
+        said = λ x p h e. elim (has_push w.sayings (saying_of a c after) x h) [ inl old ↦ inl old | inr f ↦ inr (new_said x p f e) ];
         served = λ k n call p h. elim (has_append w.posts posts (Answered k n call (Peers.Served p)) h) [ inl old ↦ inl old | inr new ↦ inr (new_served k n call p new) ];
         notes = λ k to job place base note p h e. elim (has_append w.posts posts (Asked k to (Calls.Notify job place base note)) h) [ inl old ↦ inl old | inr new ↦ inr (new_note k to job place base note p new e) ];
-        heard = λ k p. each k (λ b h. Has h (Heard p) → Has (heard_of k w) (Heard p) ⊎ IsMade v p) (λ e h. inr (made grows p (new_heard p h))) (λ h. inl h);
+        heard = λ k p. each k (λ b h. Has h (Heard p) → Has (heard_of k w) (Heard p) ⊎ IsPairLanded v p) (λ e h. inr (made grows p (new_heard p h))) (λ h. inl h);
         entered = λ k h. each k (λ b z. Has (holdings b) h → Has (holdings (book_of k w)) h ⊎ HasLanding v k h.tag h.ovn h.version) (λ e i. inr (subst (λ z. HasLanding v z h.tag h.ovn h.version) (sym e) (landed_after h i))) (λ i. inl i);
-        keys = λ k tag x. each k (λ b z. attempt_of tag b ≡ Some x → (attempt_of tag (book_of k w) ≡ Some x) ⊎ (is_strategic x.state ≡ true → (o : List ℕ) → Has x.key o → IsClearOvn table v x o)) (λ e f. keys_at k tag x e f) (λ f. inl f);
+        keys = λ k tag x. each k (λ b z. attempt_of tag b ≡ Some x → (attempt_of tag (book_of k w) ≡ Some x) ⊎ (is_strategic x.state ≡ true → (o : List ℕ) → Has x.key o → IsClearOfPair table v x o)) (λ e f. keys_at k tag x e f) (λ f. inl f);
         landings = λ l h. inl h;
         recorded = λ r h. inl h;
         apart = λ r q h i. inl (h, i);
@@ -624,7 +564,7 @@ module _ (table : List ℕ) (owners : List Owner) (w : World) (names : AreSuppli
         sayings = λ x h. elim (has_push w.sayings (saying_of a c after) x h) [ inl old ↦ inl old | inr e ↦ inr (new_saying x e) ];
       }
     where
-      keys_at : (k tag : ℕ) (x : Attempted) → k ≡ s → attempt_of tag after ≡ Some x → (attempt_of tag (book_of k w) ≡ Some x) ⊎ (is_strategic x.state ≡ true → (o : List ℕ) → Has x.key o → IsClearOvn table v x o)
+      keys_at : (k tag : ℕ) (x : Attempted) → k ≡ s → attempt_of tag after ≡ Some x → (attempt_of tag (book_of k w) ≡ Some x) ⊎ (is_strategic x.state ≡ true → (o : List ℕ) → Has x.key o → IsClearOfPair table v x o)
       keys_at k tag x e f = elim (attempt_after tag x f) [ inl old ↦ inl (subst (λ z. attempt_of tag (book_of z w) ≡ Some x) (sym e) old) | inr new ↦ inr new ]
 
       ending_at : (k : ℕ) (d : Closing) → k ≡ s → Has (endings after) d → Has (endings (book_of k w)) d ⊎ EndingShows v k d

@@ -1,13 +1,10 @@
 -- Between the jobs of a flight, what is recorded of it is what its supplier holds.
 use Rattle.std.proofs.Common.{ℕ, ◌<◌, ◌^◌, ◌==◌, ◌≡◌, inl, inr, Bool, true, false, List, refl, ap, sym, subst, ◌∙◌, arith, Option, Some, None}
-use Rattle.std.specs.Prelude.{ℤ}
 use Rattle.uss_vol4.specs.Volume.{Volume4D}
 use Rattle.uss_vol4.specs.Bounding.{bounding_box}
 use Rattle.uss_intent.specs.Identifiers.{flight_number}
 use Rattle.uss_intent.specs.declared.records.Recorded.{Recorded}
-use Rattle.uss_intent.specs.declared.records.Reference.{Reference}
 use Rattle.uss_intent.specs.declared.records.Landing.{Landing}
-use Rattle.uss_intent.specs.declared.records.State.{State}
 use Rattle.uss_intent.specs.Numbers.{is_one_of}
 use Rattle.uss_event.specs.Pairs.{OperationalIntent}
 use Rattle.uss_event.specs.declared.asks.Wish.{Wish}
@@ -20,7 +17,7 @@ use Rattle.uss_law_dss.proofs.Lists.{list_any_has}
 use Rattle.uss_law_dss.proofs.Tests.{same_number, some_same, not_both, either}
 use Rattle.uss_law_dss.proofs.History.{last_has}
 use Rattle.uss_law_dss.proofs.EachOrderly.{one_landing}
-use Rattle.uss_law_book.specs.Lists.{Opening, Trial, Holding, Closing, openings, holdings, endings}
+use Rattle.uss_law_book.specs.Lists.{Opening, Trial, Holding, Closing, openings, trials, holdings, endings}
 use Rattle.uss_law_book.specs.Readings.{is_held, is_done, is_closed, is_ended, has_ended, last_holding, holding, open_job_of}
 use Rattle.uss_law_book.specs.Attempts.{Attempted, attempt_of, extents_of, recorded_as, held, held_by, by_wish}
 use Rattle.uss_law_book.specs.Orderly.{IsOrderly}
@@ -34,26 +31,11 @@ use Rattle.uss_law_world.specs.Free.{AreSuppliers}
 use Rattle.uss_law_world.specs.Claims.{IsLandingOf, rank_of, HoldsWhatIsRecorded, BooksAgree}
 use Rattle.uss_law_world.proofs.Books.{legal_facts, ended_is, ended_tells}
 use Rattle.uss_law_world.proofs.Lookups.{same_flight}
+use Rattle.uss_law_world.proofs.References.{same_reference}
 use Rattle.uss_law_world.proofs.Facts.{HasLanding, RecordedFrom, Facts}
 use Rattle.uss_law_world.proofs.Parts.{Stands, at, attempt_tag, attempt_flight, landed_as}
 use Rattle.uss_law_world.proofs.Jobs.{by_opening, by_holding, by_closing, holding_landing, landing_of_recorded, nothing_lands, one_of_job, previous_is, flight_is}
 use Rattle.uss_law_world.proofs.Ranks.{rank_of_last}
-
--- a reference is what its parts are
-from_parts : ℕ → List ℕ → ℕ → State → Option (List ℕ) → ℤ → ℤ → List ℕ → ℕ → Reference
-from_parts flight manager version state ovn start end base ticket =
-    record { flight = flight; manager = manager; version = version; state = state; ovn = ovn; start = start; end = end; base = base; ticket = ticket }
-
-of_parts : (r : Reference) → from_parts r.flight r.manager r.version r.state r.ovn r.start r.end r.base r.ticket ≡ r
-unfolding from_parts
-of_parts r = refl
-
-same_reference : (r q : Reference) → r.flight ≡ q.flight → r.manager ≡ q.manager → r.version ≡ q.version → r.state ≡ q.state → r.ovn ≡ q.ovn → r.start ≡ q.start → r.end ≡ q.end → r.base ≡ q.base → r.ticket ≡ q.ticket → r ≡ q
-same_reference r q a b c d e f g h i = sym (of_parts r) ∙ (same a b c d e f g h i ∙ of_parts q)
-  where
-    same : r.flight ≡ q.flight → r.manager ≡ q.manager → r.version ≡ q.version → r.state ≡ q.state → r.ovn ≡ q.ovn → r.start ≡ q.start → r.end ≡ q.end → r.base ≡ q.base → r.ticket ≡ q.ticket
-        → from_parts r.flight r.manager r.version r.state r.ovn r.start r.end r.base r.ticket ≡ from_parts q.flight q.manager q.version q.state q.ovn q.start q.end q.base q.ticket
-    same a b c d e f g h i = cc
 
 no_wish : (a : Attempted) (owner : Owner) (opening : Opening) (trial : Trial) (wish : Wish) → wish ≡ End → by_wish owner opening trial wish ≡ Some a → ⊥
 no_wish a owner opening trial (Put to priority rounds proposals) e h = cc
@@ -71,18 +53,50 @@ module _ (table : List ℕ) (owners : List Owner) (w : World) (names : AreSuppli
       let g : f.opening.ask.flight ≡ flight = ap (λ (z : Opening). z.ask.flight) same ∙ x.flight_is in
       subst (λ n. is_one_of (flight_number s n) w.service.retired_flights ≡ true) g f.retired
 
-  module _ (s flight : ℕ) (small : flight < 2 ^ 64) (free : open_job_of flight (book_of s w) ≡ None) (live : has_ended flight (book_of s w) ≡ false) where
-    -- a closed job recorded something, or ended
-    which : {P : Type 0} (job : ℕ) → is_closed job (book_of s w) ≡ true → ((k : Holding) → Has (holdings (book_of s w)) k → k.job ≡ job → P) → ((d : Closing) → Has (endings (book_of s w)) d → d.job ≡ job → P) → P
-    unfolding is_held is_done
-    which {P} job h held done = go (is_held job (book_of s w)) refl
-      where
-        go : (x : Bool) → is_held job (book_of s w) ≡ x → P
-        go true e = let k = list_any_has (λ (z : Holding). z.job == job) (holdings (book_of s w)) e in held k.0 k.1 (same_number k.0.job job k.2)
-        go false e =
-            let k = list_any_has (λ (z : Closing). z.job == job) (endings (book_of s w)) (either (is_held job (book_of s w)) (is_done job (book_of s w)) h e) in
-            done k.0 k.1 (same_number k.0.job job k.2)
+  -- a closed job recorded something, or ended
+  pub which : {P : Type 0} (s job : ℕ) → is_closed job (book_of s w) ≡ true → ((k : Holding) → Has (holdings (book_of s w)) k → k.job ≡ job → P) → ((d : Closing) → Has (endings (book_of s w)) d → d.job ≡ job → P) → P
+  unfolding is_held is_done
+  which {P} s job h held done = go (is_held job (book_of s w)) refl
+    where
+      go : (x : Bool) → is_held job (book_of s w) ≡ x → P
+      go true e = let k = list_any_has (λ (z : Holding). z.job == job) (holdings (book_of s w)) e in held k.0 k.1 (same_number k.0.job job k.2)
+      go false e =
+          let k = list_any_has (λ (z : Closing). z.job == job) (endings (book_of s w)) (either (is_held job (book_of s w)) (is_done job (book_of s w)) h e) in
+          done k.0 k.1 (same_number k.0.job job k.2)
 
+  -- a job that is to end its flight makes no attempt
+  pub end_tries_nothing : (s : ℕ) (o : Opening) (t : Trial) → Has (openings (book_of s w)) o → o.ask.wish ≡ End → Has (trials (book_of s w)) t → t.job ≡ o.job → ⊥
+  end_tries_nothing s o t i end h e =
+      let st = by_opening table owners w names j s o i in
+      let r = legal_is_orderly (book_of s w) st.1.legal in
+      let a = r.attempted t h in
+      let p = parts t.tag (book_of s w) a.0 a.1 in
+      let q = opening_has (book_of s w) p.trial.job p.opening p.has_opening in
+      let y = trial_has (book_of s w) t.tag p.trial p.has_trial in
+      let u : p.trial ≡ t = r.tags p.trial t y.0 h y.1 in
+      let same : p.opening ≡ o = r.jobs p.opening o q.0 i (q.1 ∙ (ap (λ (z : Trial). z.job) u ∙ e)) in
+      no_wish a.0 p.owner p.opening p.trial p.opening.ask.wish (ap (λ (z : Opening). z.ask.wish) same ∙ end) p.is
+
+  -- where one is closed, its flight has ended
+  pub end_ends : (s : ℕ) (o : Opening) → Has (openings (book_of s w)) o → o.ask.wish ≡ End → is_closed o.job (book_of s w) ≡ true → has_ended o.ask.flight (book_of s w) ≡ true
+  end_ends s o i end shut =
+      let st = by_opening table owners w names j s o i in
+      let r = legal_is_orderly (book_of s w) st.1.legal in
+      which s o.job shut
+      (λ k n e. (let t = r.own k n in absurd (end_tries_nothing s o t.0 i end t.1 (t.2 ∙ e))))
+      (λ d n e. (let z = (legal_facts (book_of s w) st.1.legal).ends d o n i (sym e) end in ended_is (book_of s w) d o r n z i (sym e)))
+
+  -- a retired flight is one that a job of its supplier is to end
+  pub ended_here : (s flight : ℕ) → flight < 2 ^ 64 → is_one_of (flight_number s flight) w.service.retired_flights ≡ true → (o : Opening) × Has (openings (book_of s w)) o × (o.ask.wish ≡ End) × (o.ask.flight ≡ flight)
+  ended_here s flight small gone =
+      let t = j.retired (flight_number s flight) gone in
+      let st = by_opening table owners w names j t.s t.ends.opening t.ends.opened in
+      let one = same_flight t.s s t.ends.opening.ask.flight flight ((legal_facts (book_of t.s w) st.1.legal).fits t.ends.opening t.ends.opened).1 small (sym t.ends.flight_is) in
+      (t.ends.opening, subst (λ z. Has (openings (book_of z w)) t.ends.opening) one.0 t.ends.opened, t.ends.end, one.1)
+
+  -- of a flight that hasn't ended and isn't retired, and whose jobs with a landing are closed
+  module _ (s flight : ℕ) (small : flight < 2 ^ 64) (live : has_ended flight (book_of s w) ≡ false) (unretired : is_one_of (flight_number s flight) w.service.retired_flights ≡ false)
+      (shut : (o : Opening) (l : Landing) → Has (openings (book_of s w)) o → o.ask.flight ≡ flight → IsLandingOf w s o.job l → is_closed o.job (book_of s w) ≡ true) where
     -- what is recorded of the flight was entered
     record WasHeld (r : Recorded) : Type 0 where
       holding : Holding
@@ -109,9 +123,9 @@ module _ (table : List ℕ) (owners : List Owner) (w : World) (names : AreSuppli
             let o = legal_is_orderly (book_of s w) q.legal in
             let g : flight_number s q.opening.ask.flight ≡ flight_number s flight = sym (attempt_flight table owners w names j s b.tag b here) ∙ (sym f.flight ∙ e) in
             let one = same_flight s s q.opening.ask.flight flight ((legal_facts (book_of s w) q.legal).fits q.opening q.opened).1 small g in
-            let shut = each_is_closed (book_of s w) flight q.opening free q.opened one.1 in
             let l = landing_of_recorded table owners w names j r h s b.tag b here f refl in
-            which q.opening.job shut
+            let of_job : IsLandingOf w s q.opening.job l.0 = subst (λ z. IsLandingOf w s z l.0) (q.its.job ∙ sym q.its_job) l.2 in
+            which s q.opening.job (shut q.opening l.0 q.opened one.1 of_job)
             (λ k i n. (let m = holding_landing table owners w names j s k i in
             let x : IsLandingOf w s b.job m.0 = subst (λ z. IsLandingOf w s z m.0) (n ∙ (q.its_job ∙ sym q.its.job)) m.2 in
             let same : m.0 ≡ l.0 = one_of_job table owners w names j s b.job m.0 l.0 x l.2 in
@@ -157,31 +171,6 @@ module _ (table : List ℕ) (owners : List Owner) (w : World) (names : AreSuppli
         let x = held_of (book_of s w) flight k.holding (legal_is_orderly (book_of s w) st.1.legal) (holding_is k.holding (was_last r h k)) in
         let y : None ≡ Some (recorded_as x.attempt k.holding.ovn k.holding.version) = sym n ∙ x.is in
         cc
-
-    -- the flight isn't retired
-    not_retired : (h : Holding) → Has (holdings (book_of s w)) h → is_one_of (flight_number s flight) w.service.retired_flights ≡ true → ⊥
-    not_retired h entered gone =
-        let t = j.retired (flight_number s flight) gone in
-        let st = by_opening table owners w names j t.s t.ends.opening t.ends.opened in
-        let one = same_flight t.s s t.ends.opening.ask.flight flight ((legal_facts (book_of t.s w) st.1.legal).fits t.ends.opening t.ends.opened).1 small (sym t.ends.flight_is) in
-        at_home t.ends.opening (subst (λ z. Has (openings (book_of z w)) t.ends.opening) one.0 t.ends.opened) t.ends.end one.1
-      where
-        at_home : (o : Opening) → Has (openings (book_of s w)) o → o.ask.wish ≡ End → o.ask.flight ≡ flight → ⊥
-        at_home o i end g =
-            let st = by_opening table owners w names j s o i in
-            let r = legal_is_orderly (book_of s w) st.1.legal in
-            let shut = each_is_closed (book_of s w) flight o free i g in
-            which o.job shut
-            (λ k n e. (let t = r.own k n in
-            let a = r.attempted t.0 t.1 in
-            let p = parts t.0.tag (book_of s w) a.0 a.1 in
-            let q = opening_has (book_of s w) p.trial.job p.opening p.has_opening in
-            let y = trial_has (book_of s w) t.0.tag p.trial p.has_trial in
-            let u : p.trial ≡ t.0 = r.tags p.trial t.0 y.0 t.1 y.1 in
-            let same : p.opening ≡ o = r.jobs p.opening o q.0 i (q.1 ∙ (ap (λ (z : Trial). z.job) u ∙ (t.2 ∙ e))) in
-            no_wish a.0 p.owner p.opening p.trial p.opening.ask.wish (ap (λ (z : Opening). z.ask.wish) same ∙ end) p.is))
-            (λ d n e. (let z = (legal_facts (book_of s w) st.1.legal).ends d o n i (sym e) end in
-            not_both (has_ended flight (book_of s w)) (subst (λ y. has_ended y (book_of s w) ≡ true) g (ended_is (book_of s w) d o r n z i (sym e))) live))
 
     none_held : (p : OperationalIntent) → held flight (book_of s w) ≡ Some p → holding flight (book_of s w) ≡ None → ⊥
     unfolding held
@@ -242,7 +231,7 @@ module _ (table : List ℕ) (owners : List Owner) (w : World) (names : AreSuppli
             let g : m.landing.flight ≡ flight_number s flight = f ∙ ap (flight_number s) x.flight_is in
             let is : p ≡ recorded_as x.attempt h.ovn h.version = some_same p (recorded_as x.attempt h.ovn h.version) (sym k ∙ x.is) in
             elim (j.service.there m.landing m.landed) [
-              | inl gone ↦ absurd (not_retired h x.entered (subst (λ n. is_one_of n w.service.retired_flights ≡ true) g gone))
+              | inl gone ↦ not_both (is_one_of (flight_number s flight) w.service.retired_flights) (subst (λ n. is_one_of n w.service.retired_flights ≡ true) g gone) unretired
               | inr r ↦ (r.0, r.1, (same_as h x.attempt x.found m r.0 r.1 (r.2 ∙ g) last).0 ∙ ap (λ (z : OperationalIntent). z.reference) (sym is), (same_as h x.attempt x.found m r.0 r.1 (r.2 ∙ g) last).1 ∙ ap (λ (z : OperationalIntent). Plans.extents_of z.details) (sym is))
             ]
 
@@ -254,5 +243,16 @@ module _ (table : List ℕ) (owners : List Owner) (w : World) (names : AreSuppli
         at_holding p k None e = absurd (none_held p k e)
         at_holding p k (Some h) e = recorded_so h e p k
 
+  -- between jobs
+  between : (s flight : ℕ) → flight < 2 ^ 64 → open_job_of flight (book_of s w) ≡ None → has_ended flight (book_of s w) ≡ false → HoldsWhatIsRecorded w s flight
+  between s flight small free live = holds_what_is_recorded s flight small live (unretired (is_one_of (flight_number s flight) w.service.retired_flights) refl) (λ o l i g a. each_is_closed (book_of s w) flight o free i g)
+    where
+      unretired : (x : Bool) → is_one_of (flight_number s flight) w.service.retired_flights ≡ x → x ≡ false
+      unretired false e = refl
+      unretired true e =
+          let o = ended_here s flight small e in
+          let y = end_ends s o.0 o.1 o.2 (each_is_closed (book_of s w) flight o.0 free o.1 o.3) in
+          not_both (has_ended flight (book_of s w)) (subst (λ z. has_ended z (book_of s w) ≡ true) o.3 y) live
+
   pub books_agree : BooksAgree w
-  books_agree = record { between_jobs = λ s flight small free live. holds_what_is_recorded s flight small free live; ended = ended_is_retired }
+  books_agree = record { between_jobs = between; ended = ended_is_retired }

@@ -1,13 +1,11 @@
 -- A call that the discovery service takes keeps what holds.
 use Rattle.std.proofs.Common.{ℕ, ◌<◌, ◌≡◌, ◌⊎◌, inl, inr, ◌==◌, ◌^◌, ◌||◌, Bool, true, false, not, List, [], ◌∷◌, ◌++◌, refl, ap, sym, subst, ◌∙◌, Option, Some, None, unwrap_or, arith}
-use Rattle.std.specs.Prelude.{count_by}
 use Rattle.std.proofs.lemmas.List.{append-nil}
 use Rattle.uss_vol4.specs.Volume.{Volume4D}
 use Rattle.uss_intent.specs.Identifiers.{ticket_number}
 use Rattle.uss_intent.specs.Tags.{tag_of}
 use Rattle.uss_intent.specs.Same.{same_text}
 use Rattle.uss_intent.specs.declared.records.Recorded.{Recorded}
-use Rattle.uss_intent.specs.declared.records.Reference.{Reference}
 use Rattle.uss_intent.specs.declared.records.Landing.{Landing}
 use Rattle.uss_intent.specs.declared.records.State.{State}
 use Rattle.uss_intent.specs.declared.records.Ticket.{Ticket}
@@ -24,33 +22,36 @@ use Rattle.uss_event.specs.declared.calls.DssCall.{DssCall}
 use Rattle.uss_law_dss.specs.Lists.{Has}
 use Rattle.uss_law_dss.specs.Service.{Service, recorded_of, ticket_of, shown_to, relevant, in_key}
 use Rattle.uss_law_dss.specs.Refusals.{is_cited, refusal_of}
-use Rattle.uss_law_dss.specs.Step.{put_recorded, landed, landing_of, after_put, after_remove, after_ticket_put, after_ticket_remove, service_step}
+use Rattle.uss_law_dss.specs.Step.{put_recorded, landed, landing_of, new_ticket, after_put, after_remove, after_ticket_put, after_ticket_remove, service_step}
 use Rattle.uss_law_dss.specs.Effects.{Effect, Lands, Stays, TellsNoChange}
 use Rattle.uss_law_dss.specs.Effects.Effect.{lands, removes, makes_ticket, takes_ticket_out, stays}
-use Rattle.uss_law_dss.specs.Orderly.{IsOrderly, IsAsLanded, last_of}
+use Rattle.uss_law_dss.specs.Orderly.{IsOrderly, IsAsLanded}
 use Rattle.uss_law_dss.proofs.Lists.{has_push, has_left, has_last, has_filter, has_filtered, find_has, list_any_has, find_none}
-use Rattle.uss_law_dss.proofs.Tests.{either, neither, same_number, equal_number, other_number, same_bytes, some_same, not_both}
-use Rattle.uss_law_dss.proofs.History.{last_has}
+use Rattle.uss_law_dss.proofs.Tests.{either, neither, same_number, equal_number, other_number, equal_bytes, some_same, not_both}
 use Rattle.uss_law_dss.proofs.Placed.{put_there, put_keeps, put_others}
 use Rattle.uss_law_dss.proofs.Retired.{pushed_in, pushed_before}
 use Rattle.uss_law_dss.proofs.EachEffect.{effect}
 use Rattle.uss_law_dss.proofs.EachOrderly.{step_orderly}
 use Rattle.uss_law_book.specs.Readings.{is_closed}
-use Rattle.uss_law_book.specs.Attempts.{Attempted, attempt_of, extents_of, put_of}
-use Rattle.uss_law_world.specs.World.{World, book_of, name_of}
+use Rattle.uss_law_book.specs.Attempts.{Attempted, attempt_of, extents_of, put_of, recorded_as}
+use Rattle.uss_law_world.specs.World.{Supplier, World, book_of, name_of}
 use Rattle.uss_law_world.specs.World.Post.{Called, Replied}
 use Rattle.uss_law_world.specs.Moves.{after_call}
 use Rattle.uss_law_world.specs.Free.{AreSuppliers}
-use Rattle.uss_law_world.specs.Claims.{tag_in, rank_of, IsLandingOf, is_unsettling}
+use Rattle.uss_law_world.specs.Claims.{rank_of, IsLandingOf, is_unsettling}
+use Rattle.uss_law_world.specs.Invariants.{ShowsLanding, IsTicketThereOrGone, IsTicketMadeOf, IsRemovedOf}
 use Rattle.uss_law_world.proofs.Books.{legal_facts}
 use Rattle.uss_law_world.proofs.Lookups.{same_ticket}
-use Rattle.uss_law_world.proofs.Facts.{LandingFrom, RecordedFrom, AreApart, IsTriedPut, NamesHeld, IsEndOf, IsRemoveSent, IsToEnd, IsTicketOf, CallFrom, ShowsLanding, RetiredBy, RefusedShows, ReplyShows, IsRecorded, IsStanding, Facts}
-use Rattle.uss_law_world.proofs.Grows.{Grows, News, kept, recorded_from, names_held, end_of, reply_shows, entered_still}
-use Rattle.uss_law_world.proofs.Parts.{at, attempt_manager, attempt_ticket, base_tag}
+use Rattle.uss_law_world.proofs.Facts.{LandingFrom, RecordedFrom, AreApart, IsTriedPut, NamesHeld, IsEndOf, IsRemoveSent, IsToEnd, IsTicketOf, CallFrom, RefusedShows, ReplyShows, IsRecorded, IsStanding, Facts}
+use Rattle.uss_law_world.proofs.Grows.{IsTicketKept, Grows, News, kept, recorded_from, names_held, end_of, shows, reply_shows, entered_still}
+use Rattle.uss_law_world.proofs.Parts.{Stands, at, attempt_manager, attempt_ticket, base_tag}
+use Rattle.uss_law_world.proofs.References.{same_reference}
+use Rattle.uss_law_world.proofs.Tickets.{put_ticket_there, kept_by_put, kept_by_remove, kept_by_ticket_put, kept_by_ticket_remove, ticket_exists}
 use Rattle.uss_law_world.proofs.Jobs.{by_opening, landing_of_recorded, settled}
-use Rattle.uss_law_world.proofs.Ranks.{rank_kept, rank_of_new, rank_of_last}
+use Rattle.uss_law_world.proofs.Ranks.{rank_kept, rank_of_new}
 use Rattle.uss_law_world.proofs.Clear.{not_forbidden, forbidden_sym}
-use Rattle.uss_law_world.proofs.Replies.{Tells, tells, remove_retired, ticket_remove_retired, ticket_in_use, put_exists, put_stale, one_recorded, IsOtherwise}
+use Rattle.uss_law_world.proofs.Shown.{recorded_shows, sender}
+use Rattle.uss_law_world.proofs.Replies.{TellsOfState, tells, retired_told, missing_shown, ticket_in_use, put_exists, put_stale, one_recorded, IsOtherwise}
 
 or_first : (a : Bool) → (a || false) ≡ true → a ≡ true
 or_first true h = refl
@@ -68,6 +69,7 @@ pub record Taken (table : List ℕ) (owners : List Owner) (w : World) (k s : ℕ
   pub keeps_ranks : (flight : ℕ) (l : Landing) → Has w.service.landings l → rank_of flight l.ovn out.1.landings ≡ rank_of flight l.ovn w.service.landings
   pub keeps_flights : (n : ℕ) → is_one_of n w.service.retired_flights ≡ true → is_one_of n out.1.retired_flights ≡ true
   pub keeps_tickets : (n : ℕ) → is_one_of n w.service.retired_tickets ≡ true → is_one_of n out.1.retired_tickets ≡ true
+  pub keeps_there : (t : Ticket) → Has w.service.tickets t → IsTicketKept out.1 t
   pub shows : ReplyShows (after_call w k s call out) s call.job call.ask out.0
   pub landings : (l : Landing) → Has out.1.landings l → Has w.service.landings l ⊎ LandingFrom (after_call w k s call out) l
   pub recorded : (r : Recorded) → Has out.1.references r → Has w.service.references r ⊎ RecordedFrom (after_call w k s call out) r
@@ -81,6 +83,7 @@ record Keeps (w : World) (out : DssReply × Service) : Type 0 where
   ranks : (flight : ℕ) (l : Landing) → Has w.service.landings l → rank_of flight l.ovn out.1.landings ≡ rank_of flight l.ovn w.service.landings
   flights : (n : ℕ) → is_one_of n w.service.retired_flights ≡ true → is_one_of n out.1.retired_flights ≡ true
   tickets : (n : ℕ) → is_one_of n w.service.retired_tickets ≡ true → is_one_of n out.1.retired_tickets ≡ true
+  there : (t : Ticket) → Has w.service.tickets t → IsTicketKept out.1 t
 
 call_grows : (w : World) (k s : ℕ) (call : DssCall) (out : DssReply × Service) → Keeps w out → Grows w (after_call w k s call out)
 call_grows w k s call out t =
@@ -92,6 +95,7 @@ call_grows w k s call out t =
       ranks = t.ranks;
       flights = t.flights;
       tickets = t.tickets;
+      there = t.there;
     }
 
 reply_is : (s k i n : ℕ) (call c : DssCall) (x y : DssReply) → Replied s k call x ≡ Replied i n c y → (s ≡ i) × (call ≡ c) × (x ≡ y)
@@ -101,11 +105,13 @@ pub taken_news : (table : List ℕ) (owners : List Owner) (w : World) (k s : ℕ
     → News table owners w (after_call w k s call out)
 taken_news table owners w k s call out t j =
     record {
-      grows = call_grows w k s call out (record { landings = t.keeps_landings; ranks = t.keeps_ranks; flights = t.keeps_flights; tickets = t.keeps_tickets });
+      grows = call_grows w k s call out (record { landings = t.keeps_landings; ranks = t.keeps_ranks; flights = t.keeps_flights; tickets = t.keeps_tickets; there = t.keeps_there });
       service = t.service;
       suppliers = j.suppliers;
       calls = λ i c h. elim (has_push w.posts _ _ h) [ inl old ↦ inl old | inr e ↦ cc ];
+      due = λ i c h. elim (has_push w.posts _ _ h) [ inl old ↦ inl old | inr e ↦ cc ];
       replies = λ i n c reply h. elim (has_push w.posts _ _ h) [ inl old ↦ inl old | inr e ↦ inr (new i n c reply e) ];
+      said = λ x p h e. inl h;
       served = λ i n c p h. elim (has_push w.posts _ _ h) [ inl old ↦ inl old | inr e ↦ cc ];
       notes = λ i to job place base note p h q. elim (has_push w.posts _ _ h) [ inl old ↦ inl old | inr e ↦ cc ];
       heard = λ i p h. inl h;
@@ -172,8 +178,11 @@ module _ (table : List ℕ) (owners : List Owner) (w : World) (names : AreSuppli
     has_new : Has v.service.landings new
     has_new = has_last w.service.landings new
 
+    there_after : (t : Ticket) → Has w.service.tickets t → IsTicketKept v.service t
+    there_after = kept_by_put w.service (name_of s w) a.flight a.previous (extents_of a) a.state a.base a.ticket
+
     grows : Grows w v
-    grows = call_grows w k s call _ (record { landings = λ m h. has_left w.service.landings (new ∷ []) m h; ranks = λ flight m h. rank_kept flight m.ovn w.service.landings (new ∷ []) m h refl; flights = λ n h. h; tickets = λ n h. h })
+    grows = call_grows w k s call _ (record { landings = λ m h. has_left w.service.landings (new ∷ []) m h; ranks = λ flight m h. rank_kept flight m.ovn w.service.landings (new ∷ []) m h refl; flights = λ n h. h; tickets = λ n h. h; there = there_after })
 
     from : LandingFrom v new
     from =
@@ -191,7 +200,19 @@ module _ (table : List ℕ) (owners : List Owner) (w : World) (names : AreSuppli
     record_new = record { s = s; attempt = a; found = found; flight = refl; manager = manager; state = refl; extents = refl; base = refl; ticket = refl }
 
     show : ShowsLanding v s made.reference
-    show o e = record { landing = new; landed = has_new; ovn = some_same new.ovn o e; manager = refl; tag_is = refl; rank = rank }
+    show o e =
+        record {
+          landing = new;
+          landed = has_new;
+          ovn_is = some_same new.ovn o e;
+          manager = refl;
+          flight = refl;
+          tag = refl;
+          version = rank;
+          attempt = a;
+          found = subst (λ z. attempt_of z (book_of s w) ≡ Some a) (sym tag) found;
+          is = same_reference made.reference (recorded_as a o made.reference.version).reference refl manager refl refl e refl refl refl refl;
+        }
       where
         rank : rank_of new.flight new.ovn v.service.landings ≡ made.reference.version
         rank =
@@ -265,6 +286,7 @@ module _ (table : List ℕ) (owners : List Owner) (w : World) (names : AreSuppli
           keeps_ranks = λ flight m h. rank_kept flight m.ovn w.service.landings (new ∷ []) m h refl;
           keeps_flights = λ n h. h;
           keeps_tickets = λ n h. h;
+          keeps_there = there_after;
           shows = show;
           landings = λ m h. elim (has_push w.service.landings new m h) [ inl old ↦ inl old | inr e ↦ inr (subst (LandingFrom v) e from) ];
           recorded = λ r h. elim (which r h) [ inl e ↦ inr (subst (RecordedFrom v) e record_new) | inr old ↦ inl old ];
@@ -283,6 +305,7 @@ module _ (table : List ℕ) (owners : List Owner) (w : World) (names : AreSuppli
   module _ (out : DssReply × Service) (orderly : IsOrderly out.1) (same : out.1.landings ≡ w.service.landings) (fewer : (r : Recorded) → Has out.1.references r → Has w.service.references r)
       (flights : (n : ℕ) → is_one_of n w.service.retired_flights ≡ true → is_one_of n out.1.retired_flights ≡ true)
       (tickets : (n : ℕ) → is_one_of n w.service.retired_tickets ≡ true → is_one_of n out.1.retired_tickets ≡ true)
+      (kept_there : (t : Ticket) → Has w.service.tickets t → IsTicketKept out.1 t)
       (shows : ReplyShows (after_call w k s call out) s call.job call.ask out.0)
       (standing : (l : Landing) → Has w.service.landings l → IsStanding (after_call w k s call out) l)
       (retired : (n : ℕ) → is_one_of n out.1.retired_flights ≡ true → (is_one_of n w.service.retired_flights ≡ true) ⊎ IsToEnd (after_call w k s call out) n) where
@@ -294,6 +317,7 @@ module _ (table : List ℕ) (owners : List Owner) (w : World) (names : AreSuppli
           keeps_ranks = λ flight l h. ap (rank_of flight l.ovn) same;
           keeps_flights = flights;
           keeps_tickets = tickets;
+          keeps_there = kept_there;
           shows = shows;
           landings = λ l h. inl (subst (λ ls. Has ls l) same h);
           recorded = λ r h. inl (fewer r h);
@@ -310,12 +334,12 @@ module _ (table : List ℕ) (owners : List Owner) (w : World) (names : AreSuppli
     | inr r ↦ inr (record { recorded = r.recorded; there = stay r.recorded r.there; ovn_is = r.ovn_is })
   ]
 
-  module _ (flight : ℕ) (ovn : List ℕ) (r : Recorded) (is : call.ask ≡ Asks.Remove flight ovn) (found : recorded_of flight w.service ≡ Some r) (by_ovn : r.reference.ovn ≡ Some ovn) (sent : IsRemoveSent w s flight ovn) where
+  module _ (flight : ℕ) (ovn : List ℕ) (r : Recorded) (is : call.ask ≡ Asks.Remove flight ovn) (found : recorded_of flight w.service ≡ Some r) (by_ovn : r.reference.ovn ≡ Some ovn) (own : r.reference.manager ≡ name_of s w) (x : Supplier) (st : Stands owners w s x) (sent : IsRemoveSent w s flight ovn) where
     abbrev gone : DssReply × Service
     gone = after_remove w.service (name_of s w) r
 
     grows_gone : Grows w (after_call w k s call gone)
-    grows_gone = call_grows w k s call gone (record { landings = λ l h. h; ranks = λ flight l h. refl; flights = λ n h. pushed_before n r.reference.flight w.service.retired_flights h; tickets = λ n h. h })
+    grows_gone = call_grows w k s call gone (record { landings = λ l h. h; ranks = λ flight l h. refl; flights = λ n h. pushed_before n r.reference.flight w.service.retired_flights h; tickets = λ n h. h; there = kept_by_remove w.service (name_of s w) r })
 
     there : Has w.service.references r × ((r.reference.flight == flight) ≡ true)
     there = find_has (λ (z : Recorded). z.reference.flight == flight) w.service.references r found
@@ -335,10 +359,16 @@ module _ (table : List ℕ) (owners : List Owner) (w : World) (names : AreSuppli
             let o : ovn ≡ l.ovn = some_same ovn l.ovn (sym by_ovn ∙ (ap (λ (z : Recorded). z.reference.ovn) (sym same) ∙ q.ovn_is)) in
             inl (record { s = s; names = names_held grows_gone s l.ovn (subst (NamesHeld w s) o sent.names) })
 
-    shows_gone : RetiredBy (after_call w k s call gone) call.ask
-    shows_gone =
-        subst (RetiredBy (after_call w k s call gone)) (sym is)
-        (subst (λ n. is_one_of n (w.service.retired_flights ++ r.reference.flight ∷ []) ≡ true) (same_number r.reference.flight flight there.1) (pushed_in r.reference.flight w.service.retired_flights))
+    shows_gone : ShowsLanding (after_call w k s call gone) s r.reference × IsRemovedOf (after_call w k s call gone) call.ask
+    shows_gone = (
+      shows grows_gone s r.reference (recorded_shows table owners w names j s x st r.reference r there.0 (shown (same_text r.reference.manager (name_of s w)) refl)),
+      subst (IsRemovedOf (after_call w k s call gone)) (sym is)
+          (subst (λ n. is_one_of n (w.service.retired_flights ++ r.reference.flight ∷ []) ≡ true) (same_number r.reference.flight flight there.1) (pushed_in r.reference.flight w.service.retired_flights)),
+    )
+      where
+        shown : (y : Bool) → same_text r.reference.manager (name_of s w) ≡ y → r.reference ≡ shown_to (name_of s w) r.reference
+        shown true e = rw e refl
+        shown false e = not_both (same_text r.reference.manager (name_of s w)) (equal_bytes r.reference.manager (name_of s w) own) e
 
     retired_gone : (n : ℕ) → is_one_of n (w.service.retired_flights ++ r.reference.flight ∷ []) ≡ true → (is_one_of n w.service.retired_flights ≡ true) ⊎ IsToEnd (after_call w k s call gone) n
     retired_gone n h = go (is_one_of n w.service.retired_flights) refl
@@ -353,55 +383,28 @@ module _ (table : List ℕ) (owners : List Owner) (w : World) (names : AreSuppli
     pub remove_taken : IsOrderly gone.1 → Taken table owners w k s call gone
     remove_taken o =
         quiet_taken gone o refl (λ q h. has_filter (λ (z : Recorded). not (z.reference.flight == r.reference.flight)) w.service.references q h)
-        (λ n h. pushed_before n r.reference.flight w.service.retired_flights h) (λ n h. h) shows_gone standing_gone retired_gone
+        (λ n h. pushed_before n r.reference.flight w.service.retired_flights h) (λ n h. h) (kept_by_remove w.service (name_of s w) r) shows_gone standing_gone retired_gone
 
-  pub ticket_put_taken : (client : List ℕ) (ticket : ℕ) (area : Volume4D) (base : List ℕ) → IsOrderly (after_ticket_put w.service client ticket area base).1
-      → Taken table owners w k s call (after_ticket_put w.service client ticket area base)
-  ticket_put_taken client ticket area base o =
-      let out = after_ticket_put w.service client ticket area base in
-      let g = call_grows w k s call out (record { landings = λ l h. h; ranks = λ flight l h. refl; flights = λ n h. h; tickets = λ n h. h }) in
-      quiet_taken out o refl (λ q h. h) (λ n h. h) (λ n h. h) tt (still out g (λ r h. h)) (λ n h. inl h)
+  pub ticket_put_taken : (ticket : ℕ) (area : Volume4D) (base : List ℕ) → call.ask ≡ Asks.TicketPut ticket area base → IsOrderly (after_ticket_put w.service (name_of s w) ticket area base).1
+      → Taken table owners w k s call (after_ticket_put w.service (name_of s w) ticket area base)
+  ticket_put_taken ticket area base is o =
+      let out = after_ticket_put w.service (name_of s w) ticket area base in
+      let kept_there = kept_by_ticket_put w.service (name_of s w) ticket area base in
+      let g = call_grows w k s call out (record { landings = λ l h. h; ranks = λ flight l h. refl; flights = λ n h. h; tickets = λ n h. h; there = kept_there }) in
+      let new = new_ticket (name_of s w) ticket area base in
+      let made : IsTicketThereOrGone (after_call w k s call out) s ticket = inl (record { found = new; there = put_ticket_there new w.service.tickets; id = refl; manager = refl }) in
+      quiet_taken out o refl (λ q h. h) (λ n h. h) (λ n h. h) kept_there (subst (IsTicketMadeOf (after_call w k s call out) s) (sym is) made) (still out g (λ r h. h)) (λ n h. inl h)
 
   pub ticket_remove_taken : (id : ℕ) (t : Ticket) → call.ask ≡ Asks.TicketRemove id 1 → ticket_of id w.service ≡ Some t → IsOrderly (after_ticket_remove w.service t).1
       → Taken table owners w k s call (after_ticket_remove w.service t)
   ticket_remove_taken id t is found o =
       let out = after_ticket_remove w.service t in
       let tickets : (n : ℕ) → is_one_of n w.service.retired_tickets ≡ true → is_one_of n (w.service.retired_tickets ++ t.id ∷ []) ≡ true = λ n h. pushed_before n t.id w.service.retired_tickets h in
-      let g = call_grows w k s call out (record { landings = λ l h. h; ranks = λ flight l h. refl; flights = λ n h. h; tickets = tickets }) in
+      let g = call_grows w k s call out (record { landings = λ l h. h; ranks = λ flight l h. refl; flights = λ n h. h; tickets = tickets; there = kept_by_ticket_remove w.service t }) in
       let e : t.id ≡ id = same_number t.id id (find_has (λ (z : Ticket). z.id == id) w.service.tickets t found).1 in
-      let shows : RetiredBy (after_call w k s call out) call.ask =
-      subst (RetiredBy (after_call w k s call out)) (sym is) (subst (λ n. is_one_of n (w.service.retired_tickets ++ t.id ∷ []) ≡ true) e (pushed_in t.id w.service.retired_tickets)) in
-      quiet_taken out o refl (λ q h. h) (λ n h. h) tickets shows (still out g (λ r h. h)) (λ n h. inl h)
-
-  -- a reference that is got shows a landing of its manager
-  rank_here : (q : Recorded) → Has w.service.references q → (m : Landing) → last_of q.reference.flight w.service.landings ≡ Some m → q.reference.flight ≡ m.flight
-      → rank_of m.flight m.ovn w.service.landings ≡ count_by (λ (z : Landing). z.flight == q.reference.flight) w.service.landings
-  rank_here q h m e f =
-      let few = j.service.few_landings in
-      subst (λ n. rank_of n m.ovn w.service.landings ≡ count_by (λ (z : Landing). z.flight == q.reference.flight) w.service.landings) f
-      (rank_of_last q.reference.flight 0 w.service.landings m j.service.numbered (omega (arith, few)) e)
-
-  got_shows : (reply : Reference) → (q : Recorded) → Has w.service.references q → reply ≡ shown_to (name_of s w) q.reference → ShowsLanding w s reply
-  got_shows reply q h e = go (same_text q.reference.manager (name_of s w)) refl
-    where
-      go : (x : Bool) → same_text q.reference.manager (name_of s w) ≡ x → ShowsLanding w s reply
-      go true y o n =
-          let same : reply ≡ q.reference = e ∙ rw y refl in
-          let m = j.service.landed q h in
-          let i : IsAsLanded m.0 q.reference = m.2 in
-          let c : q.reference.manager ≡ name_of s w = same_bytes q.reference.manager (name_of s w) y in
-          record {
-            landing = m.0;
-            landed = last_has q.reference.flight w.service.landings m.0 m.1;
-            ovn = some_same m.0.ovn o (sym i.ovn ∙ (ap (λ (z : Reference). z.ovn) (sym same) ∙ n));
-            manager = sym i.manager ∙ c;
-            tag_is = i.tag ∙ ap (λ (z : Reference). tag_in z) (sym same);
-            rank = rank_here q h m.0 m.1 i.flight ∙ (sym (j.service.versions q h) ∙ ap (λ (z : Reference). z.version) (sym same));
-          }
-      go false y o n =
-          let hidden : reply.ovn ≡ None = ap (λ (z : Reference). z.ovn) e ∙ rw y refl in
-          let f : None ≡ Some o = sym hidden ∙ n in
-          cc
+      let shows : IsRemovedOf (after_call w k s call out) call.ask =
+      subst (IsRemovedOf (after_call w k s call out)) (sym is) (subst (λ n. is_one_of n (w.service.retired_tickets ++ t.id ∷ []) ≡ true) e (pushed_in t.id w.service.retired_tickets)) in
+      quiet_taken out o refl (λ q h. h) (λ n h. h) tickets (kept_by_ticket_remove w.service t) shows (still out g (λ r h. h)) (λ n h. inl h)
 
   -- a refusal by another OVN that is recorded, or since the ticket is cited
   put_settled : (flight : ℕ) (ovn : Option (List ℕ)) (extents : List Volume4D) (key : List (List ℕ)) (state : State) (base : List ℕ) (ticket : ℕ) (job : ℕ)
@@ -440,47 +443,62 @@ module _ (table : List ℕ) (owners : List Owner) (w : World) (names : AreSuppli
   refused_settles job (Asks.TicketRemove ticket version) Refuses.TicketInUse p e u = inr (ticket_settled job ticket p (ticket_in_use w.service (name_of s w) ticket version e))
   refused_settles job _ _ p e u = cc
 
-  refused_retires : (job : ℕ) (ask : DssAsk) → refusal_of w.service (name_of s w) ask ≡ Some Refuses.Retired → RetiredBy w ask
-  refused_retires job (Asks.Remove flight ovn) e = remove_retired w.service (name_of s w) flight ovn e
-  refused_retires job (Asks.TicketRemove ticket version) e = ticket_remove_retired w.service (name_of s w) ticket version e
-  refused_retires job _ e = tt
+  refused_retires : (ask : DssAsk) → refusal_of w.service (name_of s w) ask ≡ Some Refuses.Retired → IsRemovedOf w ask
+  refused_retires (Asks.Query area) e = tt
+  refused_retires (Asks.Get flight) e = retired_told w.service (name_of s w) (Asks.Get flight) e
+  refused_retires (Asks.Put flight ovn extents key state base ticket) e = retired_told w.service (name_of s w) (Asks.Put flight ovn extents key state base ticket) e
+  refused_retires (Asks.Remove flight ovn) e = retired_told w.service (name_of s w) (Asks.Remove flight ovn) e
+  refused_retires (Asks.TicketPut ticket area base) e = retired_told w.service (name_of s w) (Asks.TicketPut ticket area base) e
+  refused_retires (Asks.TicketGet ticket) e = retired_told w.service (name_of s w) (Asks.TicketGet ticket) e
+  refused_retires (Asks.TicketRemove ticket version) e = retired_told w.service (name_of s w) (Asks.TicketRemove ticket version) e
+
+  exists_shows : (ask : DssAsk) → refusal_of w.service (name_of s w) ask ≡ Some Refuses.Exists → IsTicketMadeOf w s ask
+  exists_shows (Asks.TicketPut ticket area base) e =
+      let t = ticket_exists w.service (name_of s w) ticket area base e in
+      inl (record { found = t.found; there = t.there; id = t.id; manager = t.manager })
+  exists_shows _ e = tt
 
   absent_unsettles : (ask : DssAsk) → is_unsettling ask Refuses.Absent ≡ true → ⊥
   absent_unsettles (Asks.Put flight ovn extents key state base ticket) u = cc
   absent_unsettles (Asks.TicketRemove ticket version) u = cc
   absent_unsettles _ u = cc
 
-  refused_shows : (job : ℕ) (ask : DssAsk) (refusal : DssRefusal) → CallFrom w s job ask → (refusal_of w.service (name_of s w) ask ≡ Some refusal) ⊎ (refusal ≡ Refuses.Absent) → RefusedShows w s job ask refusal
-  refused_shows job ask refusal p (inl e) =
+  refused_shows : (x : Supplier) → Stands owners w s x → (job : ℕ) (ask : DssAsk) (refusal : DssRefusal) → CallFrom w s job ask → (refusal_of w.service (name_of s w) ask ≡ Some refusal) ⊎ (refusal ≡ Refuses.Absent) → RefusedShows w s job ask refusal
+  refused_shows x st job ask refusal p (inl e) =
       record {
-        retired = λ q. refused_retires job ask (e ∙ ap Some q);
+        there = λ q. exists_shows ask (e ∙ ap Some q);
+        retired = λ q. refused_retires ask (e ∙ ap Some q);
+        missing = λ rs q r i. (let m = missing_shown w.service (name_of s w) ask rs (e ∙ ap Some q) r i in recorded_shows table owners w names j s x st r m.recorded m.there m.is);
         settled = λ u. refused_settles job ask refusal p e u;
       }
-  refused_shows job ask refusal p (inr a) =
+  refused_shows x st job ask refusal p (inr a) =
       record {
+        there = λ q. (let z : Refuses.Absent ≡ Refuses.Exists = sym a ∙ q in cc);
         retired = λ q. (let z : Refuses.Absent ≡ Refuses.Retired = sym a ∙ q in cc);
+        missing = λ rs q. (let z : Refuses.Absent ≡ Refuses.MissingKey rs = sym a ∙ q in cc);
         settled = λ u. absurd (absent_unsettles ask (subst (λ z. is_unsettling ask z ≡ true) a u));
       }
 
   -- no change
-  stays_shows : (ask : DssAsk) → CallFrom w s call.job ask → (reply : DssReply) → Tells w.service (name_of s w) ask reply → TellsNoChange reply → ReplyShows w s call.job ask reply
-  stays_shows ask p (Replies.Found references) t n = tt
-  stays_shows ask p (Replies.Got r) t n = got_shows r t.0 t.1 t.2
-  stays_shows ask p (Replies.Landed r subscribers) t n = absurd n
-  stays_shows ask p (Replies.Removed r subscribers) t n = absurd n
-  stays_shows ask p (Replies.TicketMade x) t n = tt
-  stays_shows ask p (Replies.TicketGot x) t n = tt
-  stays_shows ask p (Replies.TicketRemoved x) t n = absurd n
-  stays_shows ask p (Replies.Refused refusal) t n = refused_shows call.job ask refusal p t
+  stays_shows : (x : Supplier) → Stands owners w s x → (ask : DssAsk) → CallFrom w s call.job ask → (reply : DssReply) → TellsOfState w.service (name_of s w) ask reply → TellsNoChange reply → ReplyShows w s call.job ask reply
+  stays_shows x st ask p (Replies.Found references) t n = λ r i. recorded_shows table owners w names j s x st r (t r i).recorded (t r i).there (t r i).is
+  stays_shows x st ask p (Replies.Got r) t n = recorded_shows table owners w names j s x st r t.recorded t.there t.is
+  stays_shows x st ask p (Replies.Landed r subscribers) t n = absurd n
+  stays_shows x st ask p (Replies.Removed r subscribers) t n = absurd n
+  stays_shows x st ask p (Replies.TicketMade u) t n = absurd n
+  stays_shows x st ask p (Replies.TicketGot u) t n = tt
+  stays_shows x st ask p (Replies.TicketRemoved u) t n = absurd n
+  stays_shows x st ask p (Replies.Refused refusal) t n = refused_shows x st call.job ask refusal p t
 
-  pub stays_taken : CallFrom w s call.job call.ask → (out : DssReply × Service) → IsOrderly out.1 → Tells w.service (name_of s w) call.ask out.0 → Stays w.service out → Taken table owners w k s call out
-  stays_taken p out o t st =
+  pub stays_taken : (x : Supplier) → Stands owners w s x → CallFrom w s call.job call.ask → (out : DssReply × Service) → IsOrderly out.1 → TellsOfState w.service (name_of s w) call.ask out.0 → Stays w.service out → Taken table owners w k s call out
+  stays_taken x here p out o t st =
       let keeps_flights : (n : ℕ) → is_one_of n w.service.retired_flights ≡ true → is_one_of n out.1.retired_flights ≡ true = λ n h. subst (λ (z : Service). is_one_of n z.retired_flights ≡ true) (sym st.same) h in
       let keeps_tickets : (n : ℕ) → is_one_of n w.service.retired_tickets ≡ true → is_one_of n out.1.retired_tickets ≡ true = λ n h. subst (λ (z : Service). is_one_of n z.retired_tickets ≡ true) (sym st.same) h in
+      let kept_there : (t : Ticket) → Has w.service.tickets t → IsTicketKept out.1 t = λ t h. inl (record { found = t; there = subst (λ (z : Service). Has z.tickets t) (sym st.same) h; id = refl; manager = refl }) in
       let same : out.1.landings ≡ w.service.landings = ap (λ (z : Service). z.landings) st.same in
-      let g = call_grows w k s call out (record { landings = λ l h. subst (λ (ls : List Landing). Has ls l) (sym same) h; ranks = λ flight l h. ap (rank_of flight l.ovn) same; flights = keeps_flights; tickets = keeps_tickets }) in
-      quiet_taken out o same (λ r h. subst (λ (z : Service). Has z.references r) st.same h) keeps_flights keeps_tickets
-      (reply_shows g s call.job call.ask out.0 (stays_shows call.ask p out.0 t st.reply))
+      let g = call_grows w k s call out (record { landings = λ l h. subst (λ (ls : List Landing). Has ls l) (sym same) h; ranks = λ flight l h. ap (rank_of flight l.ovn) same; flights = keeps_flights; tickets = keeps_tickets; there = kept_there }) in
+      quiet_taken out o same (λ r h. subst (λ (z : Service). Has z.references r) st.same h) keeps_flights keeps_tickets kept_there
+      (reply_shows g s call.job call.ask out.0 (stays_shows x here call.ask p out.0 t st.reply))
       (still out g (λ r h. subst (λ (z : Service). Has z.references r) (sym st.same) h)) (λ n h. inl (subst (λ (z : Service). is_one_of n z.retired_flights ≡ true) st.same h))
 
 -- a call that was sent
@@ -496,29 +514,30 @@ pub put_out : (s : Service) (client : List ℕ) (flight : ℕ) (ovn : Option (Li
     → Asks.Put flight ovn extents key state base ticket ≡ put_of a → after_put s client flight ovn extents state base ticket ≡ after_put s client a.flight a.previous (extents_of a) a.state a.base a.ticket
 put_out s client flight ovn extents key state base ticket a e = let f = put_is flight ovn extents key state base ticket a e in rw (f.0, f.1, f.2, f.4, f.5, f.6) refl
 
-by_effect : (table : List ℕ) (owners : List Owner) (w : World) → AreSuppliers table owners → Facts table owners w → (k s : ℕ) (call : DssCall) → CallFrom w s call.job call.ask → (out : DssReply × Service) → IsOrderly out.1
-    → Tells w.service (name_of s w) call.ask out.0 → Effect w.service (name_of s w) call.ask out → Taken table owners w k s call out
-by_effect table owners w names j k s call p out o t (lands l) =
+by_effect : (table : List ℕ) (owners : List Owner) (w : World) → AreSuppliers table owners → Facts table owners w → (k s : ℕ) (call : DssCall) → (x : Supplier) → Stands owners w s x → CallFrom w s call.job call.ask → (out : DssReply × Service) → IsOrderly out.1
+    → TellsOfState w.service (name_of s w) call.ask out.0 → Effect w.service (name_of s w) call.ask out → Taken table owners w k s call out
+by_effect table owners w names j k s call x here p out o t (lands l) =
     let q = is_tried call.ask l.flight l.ovn l.extents l.key l.state l.base l.ticket w s call.job l.is p in
     let a = q.attempt in
     let is : out ≡ after_put w.service (name_of s w) a.flight a.previous (extents_of a) a.state a.base a.ticket =
     l.out_is ∙ put_out w.service (name_of s w) l.flight l.ovn l.extents l.key l.state l.base l.ticket a q.is in
     let l' : Lands w.service (name_of s w) (put_of a) out = subst (λ z. Lands w.service (name_of s w) z out) (l.is ∙ q.is) l in
     lands_taken table owners w names j k s call a q.found out is l' o
-by_effect table owners w names j k s call p out o t (removes l) =
+by_effect table owners w names j k s call x here p out o t (removes l) =
     subst (λ z. Taken table owners w k s call z) (sym l.out_is)
-    (remove_taken table owners w names j k s call l.flight l.ovn l.recorded l.is l.found l.by_ovn (of_removes call.ask l.flight l.ovn w s call.job l.is p) (subst (λ (z : DssReply × Service). IsOrderly z.1) l.out_is o))
-by_effect table owners w names j k s call p out o t (makes_ticket l) =
+    (remove_taken table owners w names j k s call l.flight l.ovn l.recorded l.is l.found l.by_ovn l.manager x here (of_removes call.ask l.flight l.ovn w s call.job l.is p) (subst (λ (z : DssReply × Service). IsOrderly z.1) l.out_is o))
+by_effect table owners w names j k s call x here p out o t (makes_ticket l) =
     subst (λ z. Taken table owners w k s call z) (sym l.out_is)
-    (ticket_put_taken table owners w names j k s call (name_of s w) l.ticket l.area l.base (subst (λ (z : DssReply × Service). IsOrderly z.1) l.out_is o))
-by_effect table owners w names j k s call p out o t (takes_ticket_out l) =
+    (ticket_put_taken table owners w names j k s call l.ticket l.area l.base l.is (subst (λ (z : DssReply × Service). IsOrderly z.1) l.out_is o))
+by_effect table owners w names j k s call x here p out o t (takes_ticket_out l) =
     subst (λ z. Taken table owners w k s call z) (sym l.out_is)
     (ticket_remove_taken table owners w names j k s call l.id l.ticket l.is l.found (subst (λ (z : DssReply × Service). IsOrderly z.1) l.out_is o))
-by_effect table owners w names j k s call p out o t (stays l) = stays_taken table owners w names j k s call p out o t l
+by_effect table owners w names j k s call x here p out o t (stays l) = stays_taken table owners w names j k s call x here p out o t l
 
 pub call_facts : (table : List ℕ) (owners : List Owner) (w : World) → AreSuppliers table owners → (k s : ℕ) (call : DssCall) → Has w.posts (Called s call) → Facts table owners w
     → Facts table owners (after_call w k s call (service_step w.service (name_of s w) call.ask))
 call_facts table owners w names k s call h j =
     let out = service_step w.service (name_of s w) call.ask in
-    let t = by_effect table owners w names j k s call (j.calls s call h) out (step_orderly w.service (name_of s w) call.ask j.service) (tells w.service (name_of s w) call.ask) (effect w.service (name_of s w) call.ask) in
+    let x = sender table owners w names j s call (j.due s call h) in
+    let t = by_effect table owners w names j k s call x.0 x.1 (j.calls s call h) out (step_orderly w.service (name_of s w) call.ask j.service) (tells w.service (name_of s w) call.ask) (effect w.service (name_of s w) call.ask) in
     kept table owners w (after_call w k s call out) (taken_news table owners w k s call out t j) j

@@ -24,7 +24,7 @@ use Rattle.uss_law_duty.specs.Entered.{candidate_of}
 use Rattle.uss_law_world.specs.World.{World, book_of}
 use Rattle.uss_law_world.specs.Free.{AreSuppliers}
 use Rattle.uss_law_world.specs.Claims.{Forbidden, Higher, IsExcepted, IsIntentOfRecorded, NothingStandsAgainst}
-use Rattle.uss_law_world.proofs.Facts.{IsMade, RecordedFrom, Facts}
+use Rattle.uss_law_world.proofs.Facts.{IsPairLanded, RecordedFrom, Facts}
 use Rattle.uss_law_world.proofs.Parts.{landed_as, intent_is}
 
 -- sharing goes both ways
@@ -97,10 +97,10 @@ ovn_of_key : (o : Option (List ℕ)) (p : List ℕ) → has_ovn o p ≡ true →
 ovn_of_key None p h = cc
 ovn_of_key (Some q) p h = ap Some (same_bytes q p h)
 
-made_ovn : {w : World} (p : OperationalIntent) → (m : IsMade w p) → Some m.ovn ≡ p.reference.ovn
+made_ovn : {w : World} (p : OperationalIntent) → (m : IsPairLanded w p) → Some m.ovn ≡ p.reference.ovn
 made_ovn p m = sym (ap (λ (z : OperationalIntent). z.reference.ovn) m.is)
 
-made_clear : (table : List ℕ) (x : Candidate) → {w : World} (p : OperationalIntent) → (m : IsMade w p) → (previous : Option OperationalIntent) → verdict table x p previous ≡ Clear
+made_clear : (table : List ℕ) (x : Candidate) → {w : World} (p : OperationalIntent) → (m : IsPairLanded w p) → (previous : Option OperationalIntent) → verdict table x p previous ≡ Clear
     → verdict table x (recorded_as m.attempt m.ovn m.version) previous ≡ Clear
 made_clear table x p m previous h = subst (λ z. verdict table x z previous ≡ Clear) m.is h
 
@@ -109,7 +109,7 @@ pub record IsClearOf (table : List ℕ) (w : World) (a b : Attempted) : Type 0 w
   pub ovn : List ℕ
   pub version : ℕ
   pub previous : Option OperationalIntent
-  pub previous_made : IfSome previous (IsMade w)
+  pub previous_made : IfSome previous (IsPairLanded w)
   pub previous_is : option_and_then (λ (p : OperationalIntent). p.reference.ovn) previous ≡ a.previous
   pub clear : IsClear table (candidate_of a) (recorded_as b ovn version) previous
 
@@ -156,7 +156,7 @@ module _ (table : List ℕ) (owners : List Owner) (w : World) (names : AreSuppli
       → is_excepted (candidate_of a) (recorded_as b c.ovn c.version) c.previous ≡ false
   no_exception a b replaced c r there was none i u = go c.previous refl c.previous_made c.previous_is
     where
-      at_pair : (p : OperationalIntent) → (m : IsMade w p) → (q : Recorded) → r ≡ Some q → (x : Option Attempted) → replaced ≡ x → IsIntentOfRecorded w (Some q) x → Some m.ovn ≡ a.previous
+      at_pair : (p : OperationalIntent) → (m : IsPairLanded w p) → (q : Recorded) → r ≡ Some q → (x : Option Attempted) → replaced ≡ x → IsIntentOfRecorded w (Some q) x → Some m.ovn ≡ a.previous
           → is_excepted (candidate_of a) (recorded_as b c.ovn c.version) (Some p) ≡ false
       at_pair p m q e None y k o = absurd k
       at_pair p m q e (Some z) y k o =
@@ -175,11 +175,11 @@ module _ (table : List ℕ) (owners : List Owner) (w : World) (names : AreSuppli
               let x : IsExcepted (Some m.attempt) a b = (activated_is a.state t'.0, activated_is m.attempt.state t'.1, (any_shares_tells (extents_of m.attempt) (extents_of b)).0 t.1) in
               absurd (u (subst (λ v. IsExcepted v a b) (sym (y ∙ ap Some is)) x))
 
-      at_made : (p : OperationalIntent) → (m : IsMade w p) → Some m.ovn ≡ a.previous → (x : Option Recorded) → r ≡ x → is_excepted (candidate_of a) (recorded_as b c.ovn c.version) (Some p) ≡ false
+      at_made : (p : OperationalIntent) → (m : IsPairLanded w p) → Some m.ovn ≡ a.previous → (x : Option Recorded) → r ≡ x → is_excepted (candidate_of a) (recorded_as b c.ovn c.version) (Some p) ≡ false
       at_made p m o None e = let n : Some m.ovn ≡ None = o ∙ none e in cc
       at_made p m o (Some q) e = at_pair p m q e replaced refl (subst (λ v. IsIntentOfRecorded w v replaced) e i) o
 
-      go : (x : Option OperationalIntent) → c.previous ≡ x → IfSome x (IsMade w) → option_and_then (λ (p : OperationalIntent). p.reference.ovn) x ≡ a.previous
+      go : (x : Option OperationalIntent) → c.previous ≡ x → IfSome x (IsPairLanded w) → option_and_then (λ (p : OperationalIntent). p.reference.ovn) x ≡ a.previous
           → is_excepted (candidate_of a) (recorded_as b c.ovn c.version) x ≡ false
       go None e m k = refl
       go (Some p) e m k = at_made p m (sym (ap (λ (z : OperationalIntent). z.reference.ovn) m.is) ∙ k) r refl

@@ -29,22 +29,16 @@ use Rattle.uss_event.specs.declared.events.Said.{Said}
 use Rattle.uss_event.specs.declared.events.Said.TheVariants as Says
 use Rattle.uss_law_dss.specs.Lists.{Has}
 use Rattle.uss_law_dss.specs.Orderly.{IsOrderly}
-use Rattle.uss_law_book.specs.Lists.{owner_of, Opening, Trial, Holding, Closing, openings, trials, holdings, endings}
+use Rattle.uss_law_book.specs.Lists.{Opening, Trial, Holding, Closing, openings, trials, holdings, endings}
 use Rattle.uss_law_book.specs.Readings.{trial_of, is_closed, is_ended}
 use Rattle.uss_law_book.specs.Attempts.{Attempted, attempt_of, extents_of, put_of, recorded_as}
-use Rattle.uss_law_book.specs.Legal.{IsLegal}
 use Rattle.uss_law_duty.specs.Heard.News.{Heard}
 use Rattle.uss_law_duty.specs.Entered.{candidate_of}
 use Rattle.uss_law_duty.specs.Answers.{is_final, by_trial, by_end}
 use Rattle.uss_law_world.specs.World.{Supplier, Saying, World, supplier_in, book_of, heard_of, name_of}
 use Rattle.uss_law_world.specs.World.Post.{Called, Replied, Asked, Answered}
-use Rattle.uss_law_world.specs.Claims.{tag_in, rank_of, Forbidden, IsLandingOf, is_unsettling}
-
--- a supplier is one of the owners, and has a legal book of its own
-pub record IsSound (owners : List Owner) (x : Supplier) : Type 0 where
-  pub legal : IsLegal x.book
-  pub own : owner_of x.book ≡ Some x.owner
-  pub one : Has owners x.owner
+use Rattle.uss_law_world.specs.Claims.{rank_of, Forbidden, IsLandingOf, is_unsettling}
+use Rattle.uss_law_world.specs.Invariants.{HasLegalBook, WasDue, ShowsLanding, AreShown, IsTicketMadeOf, IsRemovedOf}
 
 -- a landing with this OVN, of this supplier with this tag, and so many of its flight up to it
 pub record HasLanding (w : World) (s tag : ℕ) (o : List ℕ) (n : ℕ) : Type 0 where
@@ -56,7 +50,7 @@ pub record HasLanding (w : World) (s tag : ℕ) (o : List ℕ) (n : ℕ) : Type 
   pub rank : rank_of landing.flight landing.ovn w.service.landings ≡ n
 
 -- a pair is an attempt as it landed
-pub record IsMade (w : World) (p : OperationalIntent) : Type 0 where
+pub record IsPairLanded (w : World) (p : OperationalIntent) : Type 0 where
   pub s : ℕ
   pub attempt : Attempted
   pub ovn : List ℕ
@@ -128,35 +122,29 @@ CallFrom w s job (Asks.Remove flight ovn) = IsRemoveSent w s flight ovn
 CallFrom w s job (Asks.TicketRemove ticket version) = IsTicketOf w s job ticket
 CallFrom w s job _ = Unit {0}
 
--- an OVN that a reply shows is that of a landing
-abbrev pub ShowsLanding : World → ℕ → Reference → Type 0
-ShowsLanding w s r = (o : List ℕ) → r.ovn ≡ Some o → HasLanding w s (tag_in r) o r.version
-
--- what the call names was removed
-abbrev pub RetiredBy : World → DssAsk → Type 0
-RetiredBy w (Asks.Remove flight ovn) = is_one_of flight w.service.retired_flights ≡ true
-RetiredBy w (Asks.TicketRemove ticket version) = is_one_of ticket w.service.retired_tickets ≡ true
-RetiredBy w _ = Unit {0}
-
 pub record RefusedShows (w : World) (s job : ℕ) (ask : DssAsk) (refusal : DssRefusal) : Type 0 where
-  pub retired : refusal ≡ Refuses.Retired → RetiredBy w ask
+  pub there : refusal ≡ Refuses.Exists → IsTicketMadeOf w s ask
+  pub retired : refusal ≡ Refuses.Retired → IsRemovedOf w ask
+  pub missing : (references : List Reference) → refusal ≡ Refuses.MissingKey references → AreShown w s references
   pub settled : is_unsettling ask refusal ≡ true → (is_closed job (book_of s w) ≡ true) ⊎ ((l : Landing) × IsLandingOf w s job l)
 
 abbrev pub ReplyShows : World → ℕ → ℕ → DssAsk → DssReply → Type 0
+ReplyShows w s job ask (Replies.Found references) = AreShown w s references
 ReplyShows w s job ask (Replies.Landed r subscribers) = ShowsLanding w s r
 ReplyShows w s job ask (Replies.Got r) = ShowsLanding w s r
-ReplyShows w s job ask (Replies.Removed r subscribers) = RetiredBy w ask
-ReplyShows w s job ask (Replies.TicketRemoved t) = RetiredBy w ask
+ReplyShows w s job ask (Replies.Removed r subscribers) = ShowsLanding w s r × IsRemovedOf w ask
+ReplyShows w s job ask (Replies.TicketMade t) = IsTicketMadeOf w s ask
+ReplyShows w s job ask (Replies.TicketRemoved t) = IsRemovedOf w ask
 ReplyShows w s job ask (Replies.Refused refusal) = RefusedShows w s job ask refusal
 ReplyShows w s job ask _ = Unit {0}
 
 -- an OVN of an attempt's key is that of a landing against which the attempt is clear; what it changes is what it was held against
-pub record IsClearOvn (table : List ℕ) (w : World) (a : Attempted) (o : List ℕ) : Type 0 where
+pub record IsClearOfPair (table : List ℕ) (w : World) (a : Attempted) (o : List ℕ) : Type 0 where
   pub pair : OperationalIntent
-  pub made : IsMade w pair
+  pub made : IsPairLanded w pair
   pub ovn_is : pair.reference.ovn ≡ Some o
   pub previous : Option OperationalIntent
-  pub previous_made : IfSome previous (IsMade w)
+  pub previous_made : IfSome previous (IsPairLanded w)
   pub previous_is : option_and_then (λ (p : OperationalIntent). p.reference.ovn) previous ≡ a.previous
   pub clear : verdict table (candidate_of a) pair previous ≡ Clear
 
@@ -178,11 +166,12 @@ pub record IsToEnd (w : World) (flight : ℕ) : Type 0 where
   pub s : ℕ
   pub ends : IsEndOf w s flight
 
--- the flight of a job that ended it is retired
+-- the flight of a job that was to end it is retired
 pub record IsFlightRetired (w : World) (s job : ℕ) : Type 0 where
   pub opening : Opening
   pub opened : Has (openings (book_of s w)) opening
   pub job_is : opening.job ≡ job
+  pub end : opening.ask.wish ≡ End
   pub retired : is_one_of (flight_number s opening.ask.flight) w.service.retired_flights ≡ true
 
 abbrev pub IsUntried : List Entry → ℕ → Type 0
@@ -222,14 +211,16 @@ SaidIsKept book s flight number _ = Unit {0}
 -- all of it
 pub record Facts (table : List ℕ) (owners : List Owner) (w : World) : Type 0 where
   pub service : IsOrderly w.service
-  pub suppliers : (s : ℕ) (x : Supplier) → supplier_in s w.suppliers ≡ Some x → IsSound owners x
+  pub suppliers : (s : ℕ) (x : Supplier) → supplier_in s w.suppliers ≡ Some x → HasLegalBook owners x
   pub calls : (s : ℕ) (call : DssCall) → Has w.posts (Called s call) → CallFrom w s call.job call.ask
+  pub due : (s : ℕ) (call : DssCall) → Has w.posts (Called s call) → WasDue w s call
   pub replies : (s k : ℕ) (call : DssCall) (reply : DssReply) → Has w.posts (Replied s k call reply) → ReplyShows w s call.job call.ask reply
-  pub served : (s k : ℕ) (call : PeerCall) (p : OperationalIntent) → Has w.posts (Answered s k call (Peers.Served p)) → IsMade w p
-  pub notes : (s : ℕ) (to : Option ℕ) (job place : ℕ) (base : List ℕ) (note : Note) (p : OperationalIntent) → Has w.posts (Asked s to (Calls.Notify job place base note)) → note.pair ≡ Some p → IsMade w p
-  pub heard : (s : ℕ) (p : OperationalIntent) → Has (heard_of s w) (Heard p) → IsMade w p
+  pub said : (x : Saying) (p : OperationalIntent) → Has w.sayings x → x.said ≡ Says.Pair (Some p) → IsPairLanded w p
+  pub served : (s k : ℕ) (call : PeerCall) (p : OperationalIntent) → Has w.posts (Answered s k call (Peers.Served p)) → IsPairLanded w p
+  pub notes : (s : ℕ) (to : Option ℕ) (job place : ℕ) (base : List ℕ) (note : Note) (p : OperationalIntent) → Has w.posts (Asked s to (Calls.Notify job place base note)) → note.pair ≡ Some p → IsPairLanded w p
+  pub heard : (s : ℕ) (p : OperationalIntent) → Has (heard_of s w) (Heard p) → IsPairLanded w p
   pub entered : (s : ℕ) (h : Holding) → Has (holdings (book_of s w)) h → HasLanding w s h.tag h.ovn h.version
-  pub keys : (s tag : ℕ) (a : Attempted) → attempt_of tag (book_of s w) ≡ Some a → is_strategic a.state ≡ true → (o : List ℕ) → Has a.key o → IsClearOvn table w a o
+  pub keys : (s tag : ℕ) (a : Attempted) → attempt_of tag (book_of s w) ≡ Some a → is_strategic a.state ≡ true → (o : List ℕ) → Has a.key o → IsClearOfPair table w a o
   pub landings : (l : Landing) → Has w.service.landings l → LandingFrom w l
   pub recorded : (r : Recorded) → Has w.service.references r → RecordedFrom w r
   pub apart : (r q : Recorded) → Has w.service.references r → Has w.service.references q → AreApart table w r q

@@ -1,8 +1,10 @@
 -- What is kept where books and landings grow.
-use Rattle.std.proofs.Common.{ℕ, true, List, ◌++◌, ◌≡◌, ◌⊎◌, inl, inr, Option, Some, None, IfSome, refl, sym, subst, ◌∙◌}
+use Rattle.std.proofs.Common.{ℕ, true, List, ◌++◌, ◌≡◌, ◌⊎◌, inl, inr, Option, Some, None, IfSome, refl, ap, sym, subst, ◌∙◌}
+use Rattle.std.proofs.lemmas.List.{append_assoc}
 use Rattle.uss_intent.specs.declared.records.Recorded.{Recorded}
 use Rattle.uss_intent.specs.declared.records.Reference.{Reference}
 use Rattle.uss_intent.specs.declared.records.Landing.{Landing}
+use Rattle.uss_intent.specs.declared.records.Ticket.{Ticket}
 use Rattle.uss_intent.specs.declared.calls.DssAsk.{DssAsk}
 use Rattle.uss_intent.specs.declared.calls.DssAsk.TheVariants as Asks
 use Rattle.uss_intent.specs.declared.calls.DssReply.{DssReply}
@@ -20,6 +22,7 @@ use Rattle.uss_event.specs.declared.calls.Note.{Note}
 use Rattle.uss_event.specs.declared.events.Said.{Said}
 use Rattle.uss_event.specs.declared.events.Said.TheVariants as Says
 use Rattle.uss_law_dss.specs.Lists.{Has}
+use Rattle.uss_law_dss.specs.Service.{Service}
 use Rattle.uss_law_dss.specs.Orderly.{IsOrderly}
 use Rattle.uss_law_book.specs.Lists.{Opening, Trial, Holding, Closing, openings, trials, holdings, endings}
 use Rattle.uss_law_book.specs.Readings.{trial_of, is_closed}
@@ -31,7 +34,18 @@ use Rattle.uss_law_world.specs.World.{Supplier, Saying, World, supplier_in, book
 use Rattle.uss_law_world.specs.World.Post.{Called, Replied, Asked, Answered}
 use Rattle.uss_law_world.specs.Claims.{tag_in, rank_of, IsLandingOf}
 use Rattle.uss_law_world.proofs.Books.{holding_stays, ending_stays}
-use Rattle.uss_law_world.proofs.Facts.{IsSound, HasLanding, IsMade, LandingFrom, RecordedFrom, AreApart, NamesHeld, IsEndOf, IsToEnd, CallFrom, ShowsLanding, RetiredBy, ReplyShows, IsClearOvn, IsEntered, IsStanding, EndingShows, SaidIsKept, Facts}
+use Rattle.uss_law_world.specs.Invariants.{HasLegalBook, WasDue, ShowsLanding, IsTicketThere, IsTicketThereOrGone, IsTicketMadeOf, IsRemovedOf}
+use Rattle.uss_law_world.proofs.Facts.{HasLanding, IsPairLanded, LandingFrom, RecordedFrom, AreApart, NamesHeld, IsEndOf, IsToEnd, CallFrom, ReplyShows, IsClearOfPair, IsEntered, IsStanding, EndingShows, SaidIsKept, Facts}
+
+-- a ticket is there, whatever its index, or was removed
+pub record IsStillThere (s : Service) (t : Ticket) : Type 0 where
+  pub found : Ticket
+  pub there : Has s.tickets found
+  pub id : found.id ≡ t.id
+  pub manager : found.manager ≡ t.manager
+
+abbrev pub IsTicketKept : Service → Ticket → Type 0
+IsTicketKept s t = IsStillThere s t ⊎ (is_one_of t.id s.retired_tickets ≡ true)
 
 -- books and landings grow, and what is retired stays so; no attempt is made for a job that has ended
 pub record Grows (w v : World) : Type 0 where
@@ -42,6 +56,7 @@ pub record Grows (w v : World) : Type 0 where
   pub ranks : (flight : ℕ) (l : Landing) → Has w.service.landings l → rank_of flight l.ovn v.service.landings ≡ rank_of flight l.ovn w.service.landings
   pub flights : (n : ℕ) → is_one_of n w.service.retired_flights ≡ true → is_one_of n v.service.retired_flights ≡ true
   pub tickets : (n : ℕ) → is_one_of n w.service.retired_tickets ≡ true → is_one_of n v.service.retired_tickets ≡ true
+  pub there : (t : Ticket) → Has w.service.tickets t → IsTicketKept v.service t
 
 module _ {w v : World} (g : Grows w v) where
   -- what every longer book has
@@ -70,7 +85,7 @@ module _ {w v : World} (g : Grows w v) where
   has_landing s tag o n h =
       record { landing = h.landing; landed = g.landings h.landing h.landed; ovn = h.ovn; manager = h.manager ∙ sym (g.names s); tag_is = h.tag_is; rank = g.ranks h.landing.flight h.landing h.landed ∙ h.rank }
 
-  pub made : (p : OperationalIntent) → IsMade w p → IsMade v p
+  pub made : (p : OperationalIntent) → IsPairLanded w p → IsPairLanded v p
   made p h =
       record {
         s = h.s;
@@ -128,31 +143,79 @@ module _ {w v : World} (g : Grows w v) where
   call_from s job (Asks.TicketRemove ticket version) h = record { opening = h.opening; opened = opening s h.opening h.opened; job_is = h.job_is; ticket_is = h.ticket_is }
   call_from s job _ h = tt
 
+  pub was_due : (s : ℕ) (call : DssCall) → WasDue w s call → WasDue v s call
+  was_due s call h =
+      let b = g.books s in
+      record {
+        before = h.before;
+        more = h.more ++ b.0;
+        book_is = b.1 ∙ (ap (λ l. l ++ b.0) h.book_is ∙ append_assoc h.before h.more b.0);
+        owner = h.owner;
+        owns_book = h.owns_book;
+        number = h.number;
+        records = h.records;
+        tickets = h.tickets;
+        ticket_removals = h.ticket_removals;
+      }
+
   landing_of : (s job : ℕ) (l : Landing) → IsLandingOf w s job l → IsLandingOf v s job l
   landing_of s job l h =
       record { there = g.landings l h.there; manager = h.manager ∙ sym (g.names s); trial = h.trial; tried = trial s h.trial h.tried; job_is = h.job_is; tag = h.tag }
 
-  shows : (s : ℕ) (r : Reference) → ShowsLanding w s r → ShowsLanding v s r
-  shows s r h = λ o e. has_landing s (tag_in r) o r.version (h o e)
+  pub shows : (s : ℕ) (r : Reference) → ShowsLanding w s r → ShowsLanding v s r
+  shows s r h = λ o e. (let k = h o e in record {
+    landing = k.landing;
+    landed = g.landings k.landing k.landed;
+    ovn_is = k.ovn_is;
+    manager = k.manager ∙ sym (g.names s);
+    flight = k.flight;
+    tag = k.tag;
+    version = g.ranks k.landing.flight k.landing k.landed ∙ k.version;
+    attempt = k.attempt;
+    found = attempt s (tag_in r) k.attempt k.found;
+    is = k.is;
+  })
 
-  pub retired : (ask : DssAsk) → RetiredBy w ask → RetiredBy v ask
-  retired (Asks.Remove flight ovn) h = g.flights flight h
-  retired (Asks.TicketRemove ticket version) h = g.tickets ticket h
-  retired _ h = tt
+  there_still : (s ticket : ℕ) → IsTicketThere w s ticket → IsTicketThereOrGone v s ticket
+  there_still s ticket h = elim (g.there h.found h.there) [
+    | inl k ↦ inl (record { found = k.found; there = k.there; id = k.id ∙ h.id; manager = k.manager ∙ (h.manager ∙ sym (g.names s)) })
+    | inr k ↦ inr (subst (λ n. is_one_of n v.service.retired_tickets ≡ true) h.id k)
+  ]
+
+  pub there_or_gone : (s ticket : ℕ) → IsTicketThereOrGone w s ticket → IsTicketThereOrGone v s ticket
+  there_or_gone s ticket (inl h) = there_still s ticket h
+  there_or_gone s ticket (inr h) = inr (g.tickets ticket h)
+
+  pub made_by : (s : ℕ) (ask : DssAsk) → IsTicketMadeOf w s ask → IsTicketMadeOf v s ask
+  made_by s (Asks.TicketPut ticket area base) h = there_or_gone s ticket h
+  made_by s _ h = tt
+
+  pub removed_of : (ask : DssAsk) → IsRemovedOf w ask → IsRemovedOf v ask
+  removed_of (Asks.Query area) h = tt
+  removed_of (Asks.Get flight) h = g.flights flight h
+  removed_of (Asks.Put flight ovn extents key state base ticket) h = g.flights flight h
+  removed_of (Asks.Remove flight ovn) h = g.flights flight h
+  removed_of (Asks.TicketPut ticket area base) h = g.tickets ticket h
+  removed_of (Asks.TicketGet ticket) h = g.tickets ticket h
+  removed_of (Asks.TicketRemove ticket version) h = g.tickets ticket h
 
   pub reply_shows : (s job : ℕ) (ask : DssAsk) (reply : DssReply) → ReplyShows w s job ask reply → ReplyShows v s job ask reply
+  reply_shows s job ask (Replies.Found references) h = λ r i. shows s r (h r i)
   reply_shows s job ask (Replies.Landed r subscribers) h = shows s r h
   reply_shows s job ask (Replies.Got r) h = shows s r h
-  reply_shows s job ask (Replies.Removed r subscribers) h = retired ask h
-  reply_shows s job ask (Replies.TicketRemoved t) h = retired ask h
+  reply_shows s job ask (Replies.Removed r subscribers) h = (shows s r h.0, removed_of ask h.1)
+  reply_shows s job ask (Replies.TicketMade t) h = made_by s ask h
+  reply_shows s job ask (Replies.TicketRemoved t) h = removed_of ask h
   reply_shows s job ask (Replies.Refused refusal) h =
       record {
-        retired = λ e. retired ask (h.retired e);
+        there = λ e. made_by s ask (h.there e);
+        retired = λ e. removed_of ask (h.retired e);
+        missing = λ rs e r i. shows s r (h.missing rs e r i);
         settled = λ e. elim (h.settled e) [ inl c ↦ inl (closed s job c) | inr l ↦ inr (l.0, landing_of s job l.0 l.1) ];
       }
   reply_shows s job ask _ h = tt
 
-  pub clear_ovn : (table : List ℕ) (a : Attempted) (o : List ℕ) → IsClearOvn table w a o → IsClearOvn table v a o
+  pub clear_ovn : (table : List ℕ) (a : Attempted) (o : List ℕ) → IsClearOfPair table w a o → IsClearOfPair table v a o
   clear_ovn table a o h =
       record {
         pair = h.pair;
@@ -164,7 +227,7 @@ module _ {w v : World} (g : Grows w v) where
         clear = h.clear;
       }
     where
-      each : (x : Option OperationalIntent) → IfSome x (IsMade w) → IfSome x (IsMade v)
+      each : (x : Option OperationalIntent) → IfSome x (IsPairLanded w) → IfSome x (IsPairLanded v)
       each None k = tt
       each (Some p) k = made p k
 
@@ -174,7 +237,7 @@ module _ {w v : World} (g : Grows w v) where
   pub ending_shows : (s : ℕ) (d : Closing) → Has (endings (book_of s w)) d → EndingShows w s d → EndingShows v s d
   ending_shows s d k h =
       record {
-        ends = λ e. (let r = h.ends e in record { opening = r.opening; opened = opening s r.opening r.opened; job_is = r.job_is; retired = g.flights _ r.retired });
+        ends = λ e. (let r = h.ends e in record { opening = r.opening; opened = opening s r.opening r.opened; job_is = r.job_is; end = r.end; retired = g.flights _ r.retired });
         lands_nothing = λ e. elim (h.lands_nothing e) [ inl u ↦ inl (λ t m q. u t (g.untried s d k t m q) q) | inr r ↦ inr (g.tickets _ r) ];
       }
 
@@ -205,16 +268,18 @@ module _ {w v : World} (g : Grows w v) where
 pub record News (table : List ℕ) (owners : List Owner) (w v : World) : Type 0 where
   pub grows : Grows w v
   pub service : IsOrderly v.service
-  pub suppliers : (s : ℕ) (x : Supplier) → supplier_in s v.suppliers ≡ Some x → IsSound owners x
+  pub suppliers : (s : ℕ) (x : Supplier) → supplier_in s v.suppliers ≡ Some x → HasLegalBook owners x
   pub calls : (s : ℕ) (call : DssCall) → Has v.posts (Called s call) → Has w.posts (Called s call) ⊎ CallFrom v s call.job call.ask
+  pub due : (s : ℕ) (call : DssCall) → Has v.posts (Called s call) → Has w.posts (Called s call) ⊎ WasDue v s call
   pub replies : (s k : ℕ) (call : DssCall) (reply : DssReply) → Has v.posts (Replied s k call reply) → Has w.posts (Replied s k call reply) ⊎ ReplyShows v s call.job call.ask reply
-  pub served : (s k : ℕ) (call : PeerCall) (p : OperationalIntent) → Has v.posts (Answered s k call (Peers.Served p)) → Has w.posts (Answered s k call (Peers.Served p)) ⊎ IsMade v p
+  pub said : (x : Saying) (p : OperationalIntent) → Has v.sayings x → x.said ≡ Says.Pair (Some p) → Has w.sayings x ⊎ IsPairLanded v p
+  pub served : (s k : ℕ) (call : PeerCall) (p : OperationalIntent) → Has v.posts (Answered s k call (Peers.Served p)) → Has w.posts (Answered s k call (Peers.Served p)) ⊎ IsPairLanded v p
   pub notes : (s : ℕ) (to : Option ℕ) (job place : ℕ) (base : List ℕ) (note : Note) (p : OperationalIntent) → Has v.posts (Asked s to (Calls.Notify job place base note)) → note.pair ≡ Some p
-      → Has w.posts (Asked s to (Calls.Notify job place base note)) ⊎ IsMade v p
-  pub heard : (s : ℕ) (p : OperationalIntent) → Has (heard_of s v) (Heard p) → Has (heard_of s w) (Heard p) ⊎ IsMade v p
+      → Has w.posts (Asked s to (Calls.Notify job place base note)) ⊎ IsPairLanded v p
+  pub heard : (s : ℕ) (p : OperationalIntent) → Has (heard_of s v) (Heard p) → Has (heard_of s w) (Heard p) ⊎ IsPairLanded v p
   pub entered : (s : ℕ) (h : Holding) → Has (holdings (book_of s v)) h → Has (holdings (book_of s w)) h ⊎ HasLanding v s h.tag h.ovn h.version
   pub keys : (s tag : ℕ) (a : Attempted) → attempt_of tag (book_of s v) ≡ Some a
-      → (attempt_of tag (book_of s w) ≡ Some a) ⊎ (is_strategic a.state ≡ true → (o : List ℕ) → Has a.key o → IsClearOvn table v a o)
+      → (attempt_of tag (book_of s w) ≡ Some a) ⊎ (is_strategic a.state ≡ true → (o : List ℕ) → Has a.key o → IsClearOfPair table v a o)
   pub landings : (l : Landing) → Has v.service.landings l → Has w.service.landings l ⊎ LandingFrom v l
   pub recorded : (r : Recorded) → Has v.service.references r → Has w.service.references r ⊎ RecordedFrom v r
   pub apart : (r q : Recorded) → Has v.service.references r → Has v.service.references q → (Has w.service.references r × Has w.service.references q) ⊎ AreApart table v r q
@@ -230,7 +295,9 @@ kept table owners w v n j =
       service = n.service;
       suppliers = n.suppliers;
       calls = λ s call h. elim (n.calls s call h) [ inl old ↦ call_from g s call.job call.ask (j.calls s call old) | inr new ↦ new ];
+      due = λ s call h. elim (n.due s call h) [ inl old ↦ was_due g s call (j.due s call old) | inr new ↦ new ];
       replies = λ s k call reply h. elim (n.replies s k call reply h) [ inl old ↦ reply_shows g s call.job call.ask reply (j.replies s k call reply old) | inr new ↦ new ];
+      said = λ x p h e. elim (n.said x p h e) [ inl old ↦ made g p (j.said x p old e) | inr new ↦ new ];
       served = λ s k call p h. elim (n.served s k call p h) [ inl old ↦ made g p (j.served s k call p old) | inr new ↦ new ];
       notes = λ s to job place base note p h e. elim (n.notes s to job place base note p h e) [ inl old ↦ made g p (j.notes s to job place base note p old e) | inr new ↦ new ];
       heard = λ s p h. elim (n.heard s p h) [ inl old ↦ made g p (j.heard s p old) | inr new ↦ new ];

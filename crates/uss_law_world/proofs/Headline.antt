@@ -40,8 +40,7 @@ use Rattle.uss_law_world.specs.Moves.{Move, run}
 use Rattle.uss_law_world.specs.Free.{AreSuppliers, IsFree}
 use Rattle.uss_law_world.specs.Claims.{tag_in, EachIsIntended, IsMade, EachPairIsMade, Forbidden, NoneForbidden, IsClearAtLanding, LandingsAreClear, IsLandingOf, landings_of, is_request, EachAtMostOnce, FinalAnswersAreTrue, RefusalsAreSettled, OpenLandingsStay, OpenLandingsAreGot, BooksAgree}
 use Rattle.uss_law_world.proofs.Books.{legal_facts}
-use Rattle.uss_law_world.proofs.Facts.{Facts}
-use Rattle.uss_law_world.proofs.Facts as Made
+use Rattle.uss_law_world.proofs.Facts.{IsPairLanded, Facts}
 use Rattle.uss_law_world.proofs.Acts.{held_made}
 use Rattle.uss_law_world.proofs.Parts.{stands, attempt_manager, one_attempt, intent_is, intended, is_record, base_tag}
 use Rattle.uss_law_world.proofs.Clear.{stands_clear}
@@ -191,7 +190,7 @@ module _ (table : List ℕ) (owners : List Owner) (w : World) (names : AreSuppli
       ]
 
   -- a made pair, told by its landing
-  pair_is_made : (p : OperationalIntent) → Made.IsMade w p → IsMade w p
+  pub pair_is_made : (p : OperationalIntent) → IsPairLanded w p → IsMade w p
   pair_is_made p m =
       let f = j.landings m.landing.landing m.landing.landed in
       let manager : m.landing.landing.manager ≡ m.attempt.manager = m.landing.manager ∙ sym (attempt_manager table owners w names j m.s m.attempt.tag m.attempt m.found) in
@@ -215,6 +214,7 @@ module _ (table : List ℕ) (owners : List Owner) (w : World) (names : AreSuppli
       record {
         held = λ s flight p h. held_by s flight p h (supplier_in s w.suppliers) refl;
         heard = λ s p h. pair_is_made p (j.heard s p h);
+        said = λ x p h e. pair_is_made p (j.said x p h e);
         served = λ s k call p h. pair_is_made p (j.served s k call p h);
         noted = λ s to job place base note p h e. pair_is_made p (j.notes s to job place base note p h e);
       }

@@ -89,6 +89,9 @@ module _ (table : List ℕ) (owners : List Owner) (w : World) (names : AreSuppli
   pub previous_is : (s : ℕ) (t : Trial) (m : Landing) → Has (trials (book_of s w)) t → Has w.service.landings m → m.manager ≡ name_of s w → t.tag ≡ m.tag → m.previous ≡ t.previous
   previous_is s t m h k e q = (landed_by s t m h k e q).previous
 
+  pub ticket_is : (s : ℕ) (t : Trial) (m : Landing) → Has (trials (book_of s w)) t → Has w.service.landings m → m.manager ≡ name_of s w → t.tag ≡ m.tag → m.ticket ≡ ticket_number s t.job
+  ticket_is s t m h k e q = (landed_by s t m h k e q).ticket
+
   pub flight_is : (s : ℕ) (t : Trial) (m : Landing) (o : Opening) → Has (trials (book_of s w)) t → Has w.service.landings m → m.manager ≡ name_of s w → t.tag ≡ m.tag
       → Has (openings (book_of s w)) o → o.job ≡ t.job → m.flight ≡ flight_number s o.ask.flight
   flight_is s t m o h k e q i f =
@@ -139,7 +142,7 @@ module _ (table : List ℕ) (owners : List Owner) (w : World) (names : AreSuppli
   ticket_there r h = let c = j.service.covered r h in subst (λ n. is_one_of n w.service.retired_tickets ≡ false) c.cited (j.service.tickets_stay_retired c.ticket c.there)
 
   -- a recorded reference with a landing's OVN has its ticket
-  ticket_of_landing : (l : Landing) → Has w.service.landings l → (r : Recorded) → Has w.service.references r → r.reference.ovn ≡ Some l.ovn → r.reference.ticket ≡ l.ticket
+  pub ticket_of_landing : (l : Landing) → Has w.service.landings l → (r : Recorded) → Has w.service.references r → r.reference.ovn ≡ Some l.ovn → r.reference.ticket ≡ l.ticket
   ticket_of_landing l k r h e =
       let m = j.service.landed r h in
       let i : IsAsLanded m.0 r.reference = m.2 in

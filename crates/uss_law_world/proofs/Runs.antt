@@ -24,8 +24,9 @@ use Rattle.uss_law_world.specs.Moves.{Move, Arrival, to_one, event_by, arrival_b
 use Rattle.uss_law_world.specs.Moves.{Move as Moves}
 use Rattle.uss_law_world.specs.Free.{AreSuppliers, MayTake, MayDrain, arrival_of_next, MayStop, IsAllowed, IsFree}
 use Rattle.uss_law_world.specs.Claims.{rank_of}
+use Rattle.uss_law_world.specs.Invariants.{HasLegalBook}
 use Rattle.uss_law_world.proofs.Lookups.{at_any, came}
-use Rattle.uss_law_world.proofs.Facts.{IsSound, IsStanding, Facts}
+use Rattle.uss_law_world.proofs.Facts.{IsStanding, Facts}
 use Rattle.uss_law_world.proofs.Grows.{Grows, News, kept, entered_still}
 use Rattle.uss_law_world.proofs.Calls.{call_facts}
 use Rattle.uss_law_world.proofs.Acts.{Comes, act_facts}
@@ -39,7 +40,7 @@ pub record IsSame (owners : List Owner) (w v : World) : Type 0 where
   pub books : (k : ℕ) → book_of k v ≡ book_of k w
   pub names : (k : ℕ) → name_of k v ≡ name_of k w
   pub heard : (k : ℕ) (p : OperationalIntent) → Has (heard_of k v) (Heard p) → Has (heard_of k w) (Heard p)
-  pub suppliers : (k : ℕ) (x : Supplier) → supplier_in k v.suppliers ≡ Some x → IsSound owners x
+  pub suppliers : (k : ℕ) (x : Supplier) → supplier_in k v.suppliers ≡ Some x → HasLegalBook owners x
 
 pub same_facts : (table : List ℕ) (owners : List Owner) (w v : World) → IsSame owners w v → Facts table owners w → Facts table owners v
 same_facts table owners w v q j = kept table owners w v news j
@@ -54,6 +55,7 @@ same_facts table owners w v q j = kept table owners w v news j
           ranks = λ flight l h. ap (λ (z : Service). rank_of flight l.ovn z.landings) q.service;
           flights = λ n h. subst (λ (z : Service). is_one_of n z.retired_flights ≡ true) (sym q.service) h;
           tickets = λ n h. subst (λ (z : Service). is_one_of n z.retired_tickets ≡ true) (sym q.service) h;
+          there = λ t h. inl (record { found = t; there = subst (λ (z : Service). Has z.tickets t) (sym q.service) h; id = refl; manager = refl });
         }
 
     standing : (l : Landing) → Has v.service.landings l → IsStanding v l
@@ -69,7 +71,9 @@ same_facts table owners w v q j = kept table owners w v news j
           service = subst IsOrderly (sym q.service) j.service;
           suppliers = q.suppliers;
           calls = λ k call h. inl (subst (λ z. Has z (Called k call)) q.posts h);
+          due = λ k call h. inl (subst (λ z. Has z (Called k call)) q.posts h);
           replies = λ k n call reply h. inl (subst (λ z. Has z (Replied k n call reply)) q.posts h);
+          said = λ x p h e. inl (subst (λ z. Has z x) q.sayings h);
           served = λ k n call p h. inl (subst (λ z. Has z (Answered k n call (Peers.Served p))) q.posts h);
           notes = λ k to job place base note p h e. inl (subst (λ z. Has z (Asked k to (Calls.Notify job place base note))) q.posts h);
           heard = λ k p h. inl (q.heard k p h);
@@ -147,11 +151,11 @@ module _ (table : List ℕ) (owners : List Owner) (names : AreSuppliers table ow
         books = λ k. at_any s restarted w.suppliers (λ x. refl) k (λ o. book_in o ≡ book_of k w) (λ x e f. sym (ap book_in f)) refl;
         names = λ k. at_any s restarted w.suppliers (λ x. refl) k (λ o. name_in o ≡ name_of k w) (λ x e f. sym (ap name_in f)) refl;
         heard = λ k p. at_any s restarted w.suppliers (λ x. refl) k (λ o. Has (heard_in o) (Heard p) → Has (heard_of k w) (Heard p)) (λ x e f h. absurd h) (λ h. h);
-        suppliers = λ k. at_any s restarted w.suppliers (λ x. refl) k (λ o. (x : Supplier) → o ≡ Some x → IsSound owners x) (λ x e f y g. again x (j.suppliers k x f) y g) (j.suppliers k);
+        suppliers = λ k. at_any s restarted w.suppliers (λ x. refl) k (λ o. (x : Supplier) → o ≡ Some x → HasLegalBook owners x) (λ x e f y g. again x (j.suppliers k x f) y g) (j.suppliers k);
       }) j
     where
-      again : (x : Supplier) → IsSound owners x → (y : Supplier) → Some (restarted x) ≡ Some y → IsSound owners y
-      again x i y g = subst (IsSound owners) (some_same (restarted x) y g) (record { legal = i.legal; own = i.own; one = i.one })
+      again : (x : Supplier) → HasLegalBook owners x → (y : Supplier) → Some (restarted x) ≡ Some y → HasLegalBook owners y
+      again x i y g = subst (HasLegalBook owners) (some_same (restarted x) y g) (record { legal = i.legal; own = i.own; one = i.one })
 
   arrives_facts : (w : World) (c : Choice) (o : Option Arrival) → MayTake w c o → ((a : Arrival) → o ≡ Some a → Comes w a.supplier a.event) → Facts table owners w → Facts table owners (arrives w c o)
   arrives_facts w c None m f j = j

@@ -20,8 +20,9 @@ use Rattle.uss_law_book.proofs.Attempts.{parts, trial_has}
 use Rattle.uss_law_duty.specs.Heard.News.{Heard}
 use Rattle.uss_law_world.specs.World.{Supplier, World, supplier_in, book_in, heard_in, new_supplier, start}
 use Rattle.uss_law_world.specs.Free.{AreSuppliers}
+use Rattle.uss_law_world.specs.Invariants.{HasLegalBook}
 use Rattle.uss_law_world.proofs.Lookups.{has_found}
-use Rattle.uss_law_world.proofs.Facts.{IsSound, HasLanding, IsMade, IsClearOvn, EndingShows, Facts}
+use Rattle.uss_law_world.proofs.Facts.{HasLanding, IsPairLanded, IsClearOfPair, EndingShows, Facts}
 
 -- a table of rules has at most 1,001 priorities
 le_is : (a b : ℕ) → nat_le a b ≡ true → a ≤ b
@@ -75,11 +76,11 @@ module _ (table : List ℕ) (owners : List Owner) (names : AreSuppliers table ow
       go None e = subst P (sym e) none
       go (Some x) e = let n = new_of s x e in subst P (sym e) (subst (λ z. P (Some z)) n.2 (some n.0))
 
-  sound : (s : ℕ) (x : Supplier) → supplier_in s w.suppliers ≡ Some x → IsSound owners x
+  sound : (s : ℕ) (x : Supplier) → supplier_in s w.suppliers ≡ Some x → HasLegalBook owners x
   sound s x e =
       let n = new_of s x e in
-      let k : IsSound owners (new_supplier n.0) = record { legal = new_book_is_legal n.0 (names.valid n.0 n.1); own = refl; one = n.1 } in
-      subst (IsSound owners) n.2 k
+      let k : HasLegalBook owners (new_supplier n.0) = record { legal = new_book_is_legal n.0 (names.valid n.0 n.1); own = refl; one = n.1 } in
+      subst (HasLegalBook owners) n.2 k
 
   no_attempt : (tag : ℕ) (o : Owner) (a : Attempted) → attempt_of tag (Enters.Owner o ∷ []) ≡ Some a → ⊥
   no_attempt tag o a h =
@@ -95,12 +96,14 @@ module _ (table : List ℕ) (owners : List Owner) (names : AreSuppliers table ow
         service = empty_orderly;
         suppliers = sound;
         calls = λ s call h. absurd h;
+        due = λ s call h. absurd h;
         replies = λ s k call reply h. absurd h;
+        said = λ x p h e. absurd h;
         served = λ s k call p h. absurd h;
         notes = λ s to job place base note p h e. absurd h;
-        heard = λ s p. at_new s (λ x. Has (heard_in x) (Heard p) → IsMade w p) (λ h. absurd h) (λ o h. absurd h);
+        heard = λ s p. at_new s (λ x. Has (heard_in x) (Heard p) → IsPairLanded w p) (λ h. absurd h) (λ o h. absurd h);
         entered = λ s k. at_new s (λ x. Has (holdings (book_in x)) k → HasLanding w s k.tag k.ovn k.version) (λ h. absurd h) (λ o h. absurd h);
-        keys = λ s tag a. at_new s (λ x. attempt_of tag (book_in x) ≡ Some a → is_strategic a.state ≡ true → (o : List ℕ) → Has a.key o → IsClearOvn table w a o) (λ h k o i. absurd (none_tried tag a h)) (λ o h k z i. absurd (no_attempt tag o a h));
+        keys = λ s tag a. at_new s (λ x. attempt_of tag (book_in x) ≡ Some a → is_strategic a.state ≡ true → (o : List ℕ) → Has a.key o → IsClearOfPair table w a o) (λ h k o i. absurd (none_tried tag a h)) (λ o h k z i. absurd (no_attempt tag o a h));
         landings = λ l h. absurd h;
         recorded = λ r h. absurd h;
         apart = λ r q h i. absurd h;

@@ -96,10 +96,11 @@ pub record IsMade (w : World) (p : OperationalIntent) : Type 0 where
   pub rank : rank_of landing.flight landing.ovn w.service.landings ≡ version
   pub is : p ≡ recorded_as attempt landing.ovn version
 
--- each pair that a book holds, that was heard, that was served, and that was noted, is made
+-- each pair that a book holds, that was heard, that was said, that was served, and that was noted, is made
 pub record EachPairIsMade (w : World) : Type 0 where
   pub held : (s flight : ℕ) (p : OperationalIntent) → held flight (book_of s w) ≡ Some p → IsMade w p
   pub heard : (s : ℕ) (p : OperationalIntent) → Has (heard_of s w) (Heard p) → IsMade w p
+  pub said : (x : Saying) (p : OperationalIntent) → Has w.sayings x → x.said ≡ Says.Pair (Some p) → IsMade w p
   pub served : (s answered : ℕ) (call : PeerCall) (p : OperationalIntent) → Has w.posts (Answered s answered call (Peers.Served p)) → IsMade w p
   pub noted : (s : ℕ) (to : Option ℕ) (job place : ℕ) (base : List ℕ) (note : Note) (p : OperationalIntent) → Has w.posts (Asked s to (Calls.Notify job place base note)) → note.pair ≡ Some p
       → IsMade w p

@@ -4,6 +4,7 @@ pub mod Free
 pub mod Refused
 pub mod Suppliers
 pub mod Claims
+pub mod Invariants
 pub mod Worked
 pub mod Contested
 pub mod WorkedEnds

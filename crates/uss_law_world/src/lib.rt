@@ -2,19 +2,21 @@
 //! that runs.
 //!
 //! `specs/World.antt` has the world, `specs/Moves.antt` what may happen in it and what comes of that, `specs/Free.antt` which lists of
-//! moves are free, `specs/Refused.antt` which steps of a script the world refuses, `specs/Claims.antt` what is claimed, and
-//! `specs/Worked.antt`, `specs/Contested.antt`, `specs/WorkedEnds.antt`, `specs/WorkedStops.antt` and `specs/WorkedSweeps.antt` worked
-//! runs. In a free list of moves each step of a supplier is any that its duties allow (`MayStep` of `uss_law_duty`), and each step of
-//! the discovery service is that of its definition (`service_step` of `uss_law_dss`); messages are lost, come late or come again, and
-//! suppliers stop and restart at any moment. The functions below do nothing: their contracts carry the laws. `proofs/Facts.antt` has
-//! what is kept by every move; the proofs of the laws stand on nothing else.
+//! moves are free, `specs/Refused.antt` which steps of a script the world refuses, `specs/Claims.antt` what is claimed,
+//! `specs/Invariants.antt` what holds beside that, of books, calls, landings, replies, keys and jobs, and `specs/Worked.antt`,
+//! `specs/Contested.antt`, `specs/WorkedEnds.antt`, `specs/WorkedStops.antt` and `specs/WorkedSweeps.antt` worked runs. In a free list of
+//! moves each step of a supplier is any that its duties allow (`MayStep` of `uss_law_duty`), and each step of the discovery service is
+//! that of its definition (`service_step` of `uss_law_dss`); messages are lost, come late or come again, and suppliers stop and restart
+//! at any moment. The functions below do nothing: their contracts carry the laws. `proofs/Facts.antt` has what is kept by every move;
+//! the proofs of the laws stand on nothing else.
 //!
 //! Which clauses of `MayStep` the laws need: all of them `legal` and `records`; `keys`, `hears`, `pair`, `notes` and `held` that intents
 //! stay apart, that landings are clear and that pairs are made; `held`, `removals` and `final` that final answers are true; `held`,
 //! `removals` and, for whose ticket it is, `ticket_removals` that refusals are settled and that an open job's landing stays recorded;
-//! `held` and `removals` that books agree with the service. No law here needs `tickets`, `ticket_calls`, `cause` and `goes_on`. Nor
-//! does any need that a Put is of an open job and a Remove of an open one, that a Held comes of a fitting reply to the very call, or
-//! when a ticket may be taken out: those duties keep a supplier from getting in its own way.
+//! `held` and `removals` that books agree with the service, that open jobs do, and which jobs have a landing. No law here needs
+//! `tickets`, `cause` and `goes_on`, or that a Held comes of a fitting reply to the very call. And only the law that calls were due says
+//! that a Put is of an open job, a Remove of an open one, and when a ticket may be asked for and taken out (`ticket_calls`): those duties
+//! keep a supplier from getting in its own way.
 #![tactic(auto)]
 
 ghost use Rattle.std.specs.Prelude.{◌≡◌, ◌≤◌, ◌++◌, [], ◌∷◌, List, ℕ, Some};
@@ -34,6 +36,8 @@ ghost use Rattle.uss_law_world.specs.Contested.{given_up, given_up_replies, give
 ghost use Rattle.uss_law_world.specs.WorkedEnds.{planned_replies, watched, watched_sayings, ended, ended_replies, ended_sayings};
 ghost use Rattle.uss_law_world.specs.WorkedStops.{failed, failed_sayings, stopped_twice, answered_twice, answered_twice_sayings};
 ghost use Rattle.uss_law_world.specs.WorkedSweeps.{told, told_replies, told_sayings};
+ghost use Rattle.uss_law_dss.specs.Orderly.{IsOrderly};
+ghost use Rattle.uss_law_world.specs.Invariants.{BooksAreLegal, EachCallWasDue, EachLandingIsTried, RepliesAreSo, KeysAreClear, OpenJobsAgree, JobsLandWhatTheyHold};
 ghost use Rattle.uss_law_world.specs.Claims.{EachIsIntended, NoneForbidden, EachAtMostOnce, FinalAnswersAreTrue, LandingsAreClear, RefusalsAreSettled, EachPairIsMade, OpenLandingsStay, OpenLandingsAreGot, BooksAgree};
 
 /// The headline, first part: after every free list of moves no two recorded intents, both Accepted or Activated, of one priority at which
@@ -81,9 +85,58 @@ pub fn books_agree_with_the_service()
     ensures { (table : List ℕ) (owners : List Owner) (moves : List Move) → AreSuppliers table owners → IsFree (start owners) moves → BooksAgree (run (start owners) moves) }
 {}
 
-/// Each pair that a supplier holds, heard, serves or notes is an attempt of some supplier as it landed.
+/// Each pair that a supplier holds, heard, says, serves or notes is an attempt of some supplier as it landed.
 pub fn pairs_are_made()
     ensures { (table : List ℕ) (owners : List Owner) (moves : List Move) → AreSuppliers table owners → IsFree (start owners) moves → EachPairIsMade (run (start owners) moves) }
+{}
+
+/// Each supplier's book is legal, and each call of the discovery service that was ever sent was due: at a beginning of its sender's book
+/// the duties allow it.
+pub fn books_are_legal_and_calls_were_due()
+    ensures legal { (table : List ℕ) (owners : List Owner) (moves : List Move) → AreSuppliers table owners → IsFree (start owners) moves
+        → BooksAreLegal owners (run (start owners) moves) }
+    ensures due { (table : List ℕ) (owners : List Owner) (moves : List Move) → AreSuppliers table owners → IsFree (start owners) moves
+        → EachCallWasDue (run (start owners) moves) }
+{}
+
+/// The discovery service's state is orderly: a recorded reference is its flight's last landing, and its ticket is there and its manager's.
+/// And each landing has exactly one attempt, and has its flight, previous OVN and ticket.
+pub fn landings_are_of_attempts()
+    ensures orderly { (table : List ℕ) (owners : List Owner) (moves : List Move) → AreSuppliers table owners → IsFree (start owners) moves
+        → IsOrderly (run (start owners) moves).service }
+    ensures tried { (table : List ℕ) (owners : List Owner) (moves : List Move) → AreSuppliers table owners → IsFree (start owners) moves
+        → EachLandingIsTried (run (start owners) moves) }
+{}
+
+/// What a reply of the discovery service showed is so, and stays so after every further list of moves: a reference that is shown with its
+/// OVN is an attempt as it landed, a ticket that was made or is refused as there is there or was removed, and what was removed or is
+/// refused as retired is retired.
+pub fn what_replies_showed_stays_so()
+    ensures now { (table : List ℕ) (owners : List Owner) (moves : List Move) → AreSuppliers table owners → IsFree (start owners) moves
+        → RepliesAreSo (run (start owners) moves) (run (start owners) moves) }
+    ensures later { (table : List ℕ) (owners : List Owner) (moves more : List Move) → AreSuppliers table owners → IsFree (start owners) (moves ++ more)
+        → RepliesAreSo (run (start owners) moves) (run (start owners) (moves ++ more)) }
+{}
+
+/// Each OVN of the key of an attempt into Accepted or Activated is that of a landing, and nothing of that landing's attempt stands against
+/// this one, which takes the place of the landing that its previous OVN names.
+pub fn keys_are_clear()
+    ensures { (table : List ℕ) (owners : List Owner) (moves : List Move) → AreSuppliers table owners → IsFree (start owners) moves
+        → KeysAreClear table (run (start owners) moves) }
+{}
+
+/// While a job is open that is to record something, its flight isn't retired, and what is recorded of that is what its supplier holds, or the
+/// job's landing. While one is open that is to end its flight, what is recorded is what is held, or the flight is retired.
+pub fn open_jobs_agree_with_the_service()
+    ensures { (table : List ℕ) (owners : List Owner) (moves : List Move) → AreSuppliers table owners → IsFree (start owners) moves
+        → OpenJobsAgree (run (start owners) moves) }
+{}
+
+/// What a closed job recorded is its one landing. A job that ended without a record has no landing, and its ticket is retired where it made
+/// an attempt; and an open job whose ticket is retired has no landing.
+pub fn jobs_land_what_they_hold()
+    ensures { (table : List ℕ) (owners : List Owner) (moves : List Move) → AreSuppliers table owners → IsFree (start owners) moves
+        → JobsLandWhatTheyHold (run (start owners) moves) }
 {}
 
 /// A worked run: the supplier stops before its Put leaves, and the reply that the Put landed is lost; the supplier finds its landing
