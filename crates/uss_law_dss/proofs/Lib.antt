@@ -14,3 +14,5 @@ pub mod Points
 pub mod Founds
 pub mod TellsThose
 pub mod EachCarried
+pub mod Means
+pub mod EachCause

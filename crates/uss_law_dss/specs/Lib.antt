@@ -7,6 +7,7 @@ pub mod Orderly
 pub mod Effects
 pub mod Told
 pub mod Carried
+pub mod Causes
 pub mod Transcript
 pub mod Telling
 pub mod Keyed

@@ -4,7 +4,7 @@
 //! `specs/Fits.antt` which replies fit a call. The functions below do nothing: their contracts carry the laws.
 #![tactic(auto)]
 
-ghost use Rattle.std.specs.Prelude.{◌≡◌, ◌≢◌, ◌↔◌, ◌<◌, ◌^◌, ◌+◌, ℕ, List, length, Any, IsTrue, true, Some};
+ghost use Rattle.std.specs.Prelude.{◌≡◌, ◌≢◌, ◌↔◌, ◌<◌, ◌^◌, ◌+◌, ◌≤◌, ℕ, List, length, Any, IsTrue, true, Some};
 ghost use Rattle.uss_vol4.specs.Volume.{Volume4D, Shares, ListsShare};
 ghost use Rattle.uss_intent.specs.declared.calls.DssAsk.{DssAsk};
 ghost use Rattle.uss_intent.specs.declared.calls.DssReply.TheVariants.{Refused};
@@ -13,6 +13,7 @@ ghost use Rattle.uss_intent.specs.declared.records.Landing.{Landing};
 ghost use Rattle.uss_intent.specs.declared.records.Ticket.{Ticket};
 ghost use Rattle.uss_intent.specs.declared.records.Recorded.{Recorded};
 ghost use Rattle.uss_intent.specs.Texts.{IsOvn};
+ghost use Rattle.uss_intent.specs.Refusals.{refusal_number};
 ghost use Rattle.uss_law_dss.specs.Lists.{Has};
 ghost use Rattle.uss_law_dss.specs.Refusals.{refusal_of, tests_of, does_not_fall};
 ghost use Rattle.uss_law_dss.specs.Service.{Service, empty, ovn_of, relevant};
@@ -21,6 +22,7 @@ ghost use Rattle.uss_law_dss.specs.Effects.{Effect};
 ghost use Rattle.uss_law_dss.specs.Orderly.{IsOrderly};
 ghost use Rattle.uss_law_dss.specs.Told.{IsToldOf, Tells};
 ghost use Rattle.uss_law_dss.specs.Carried.{NoneHolds, CarriedOut};
+ghost use Rattle.uss_law_dss.specs.Causes.{Cause};
 ghost use Rattle.uss_law_dss.specs.Fits.{fits};
 ghost use Rattle.uss_law_dss.specs.Transcript.{calls, the_replies, contested, the_contested_replies};
 ghost use Rattle.uss_law_dss.specs.Telling.{telling, the_telling_replies};
@@ -84,6 +86,20 @@ pub fn calls_are_carried_out()
 /// The tests of a call stand in the order of the refusals' numbers, so the refusal with the least number is given.
 pub fn refusals_come_in_order()
     ensures { (s : Service) (client : List ℕ) (ask : DssAsk) → does_not_fall 201 (tests_of s client ask) ≡ true }
+{}
+
+/// A call is refused exactly where one of its tests holds, and by the first of these.
+pub fn refused_by_the_first_test()
+    ensures { (s : Service) (client : List ℕ) (ask : DssAsk) (refusal : DssRefusal) → ((service_step s client ask).0 ≡ Refused refusal) ↔ (refusal_of s client ask ≡ Some refusal) }
+{}
+
+/// The tests mean the causes: a refusal has its cause, no cause has a lesser number than the refusal that is given, a call with a cause
+/// is refused, and a call without any is carried out.
+pub fn refusals_have_causes()
+    ensures caused { (s : Service) (client : List ℕ) (ask : DssAsk) (refusal : DssRefusal) → IsOrderly s → (service_step s client ask).0 ≡ Refused refusal → Cause s client ask refusal }
+    ensures least { (s : Service) (client : List ℕ) (ask : DssAsk) (refusal other : DssRefusal) → IsOrderly s → (service_step s client ask).0 ≡ Refused refusal → Cause s client ask other → refusal_number refusal ≤ refusal_number other }
+    ensures refused { (s : Service) (client : List ℕ) (ask : DssAsk) (other : DssRefusal) → IsOrderly s → Cause s client ask other → (refusal : DssRefusal) × ((service_step s client ask).0 ≡ Refused refusal) }
+    ensures carried_out { (s : Service) (client : List ℕ) (ask : DssAsk) → IsOrderly s → ((refusal : DssRefusal) → Cause s client ask refusal → ⊥) → CarriedOut s client ask (service_step s client ask) }
 {}
 
 /// A refused call changes nothing.
