@@ -14,5 +14,6 @@ pub mod Points
 pub mod Founds
 pub mod TellsThose
 pub mod EachCarried
+pub mod WhoIsTold
 pub mod Means
 pub mod EachCause

@@ -7,11 +7,13 @@
 ghost use Rattle.std.specs.Prelude.{◌≡◌, ◌≢◌, ◌↔◌, ◌<◌, ◌^◌, ◌+◌, ◌≤◌, ℕ, List, length, Any, IsTrue, true, Some};
 ghost use Rattle.uss_vol4.specs.Volume.{Volume4D, Shares, ListsShare};
 ghost use Rattle.uss_intent.specs.declared.calls.DssAsk.{DssAsk};
-ghost use Rattle.uss_intent.specs.declared.calls.DssReply.TheVariants.{Refused};
+ghost use Rattle.uss_intent.specs.declared.calls.DssReply.TheVariants.{Landed, Removed, Refused};
 ghost use Rattle.uss_intent.specs.declared.calls.DssRefusal.{DssRefusal};
 ghost use Rattle.uss_intent.specs.declared.records.Landing.{Landing};
 ghost use Rattle.uss_intent.specs.declared.records.Ticket.{Ticket};
 ghost use Rattle.uss_intent.specs.declared.records.Recorded.{Recorded};
+ghost use Rattle.uss_intent.specs.declared.records.Reference.{Reference};
+ghost use Rattle.uss_intent.specs.declared.records.Subscriber.{Subscriber};
 ghost use Rattle.uss_intent.specs.Texts.{IsOvn};
 ghost use Rattle.uss_intent.specs.Refusals.{refusal_number};
 ghost use Rattle.uss_law_dss.specs.Lists.{Has};
@@ -20,7 +22,7 @@ ghost use Rattle.uss_law_dss.specs.Service.{Service, empty, ovn_of, relevant};
 ghost use Rattle.uss_law_dss.specs.Step.{service_step, replies_to, state_after, found_in, is_told};
 ghost use Rattle.uss_law_dss.specs.Effects.{Effect};
 ghost use Rattle.uss_law_dss.specs.Orderly.{IsOrderly};
-ghost use Rattle.uss_law_dss.specs.Told.{IsToldOf, Tells};
+ghost use Rattle.uss_law_dss.specs.Told.{IsToldOf, Tells, TellsNobody, Keeps};
 ghost use Rattle.uss_law_dss.specs.Carried.{NoneHolds, CarriedOut};
 ghost use Rattle.uss_law_dss.specs.Causes.{Cause};
 ghost use Rattle.uss_law_dss.specs.Fits.{fits};
@@ -76,6 +78,18 @@ pub fn sharing_is_of_points()
 /// the call's tests said.
 pub fn effects()
     ensures { (s : Service) (client : List ℕ) (ask : DssAsk) → Effect s client ask (service_step s client ask) }
+{}
+
+/// Who is told: the subscribers of a reply to a Put that lands are exactly the tickets of other clients whose area shares a point with
+/// old or new extents, those of a reply to a Remove the ones whose area shares with the extents that are taken out; their indexes rise by
+/// one, and no other ticket changes, nor any ticket at another call.
+pub fn who_is_told()
+    ensures landing { (s : Service) (client : List ℕ) (ask : DssAsk) (r : Reference) (told : List Subscriber)
+        → IsOrderly s → (service_step s client ask).0 ≡ Landed r told → Tells (IsToldOf s client ask) s.tickets (service_step s client ask).1.tickets told }
+    ensures removal { (s : Service) (client : List ℕ) (ask : DssAsk) (r : Reference) (told : List Subscriber)
+        → IsOrderly s → (service_step s client ask).0 ≡ Removed r told → Tells (IsToldOf s client ask) s.tickets (service_step s client ask).1.tickets told }
+    ensures other_calls { (s : Service) (client : List ℕ) (ask : DssAsk)
+        → IsOrderly s → TellsNobody (service_step s client ask).0 → Keeps s.tickets (service_step s client ask).1.tickets (service_step s client ask).0 }
 {}
 
 /// A call of which no test holds is carried out: its reply is no refusal, and the state afterwards has what the call is for.
