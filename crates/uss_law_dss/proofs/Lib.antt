@@ -17,3 +17,4 @@ pub mod EachCarried
 pub mod WhoIsTold
 pub mod Means
 pub mod EachCause
+pub mod Growing

@@ -25,6 +25,7 @@ ghost use Rattle.uss_law_dss.specs.Orderly.{IsOrderly};
 ghost use Rattle.uss_law_dss.specs.Told.{IsToldOf, Tells, TellsNobody, Keeps};
 ghost use Rattle.uss_law_dss.specs.Carried.{NoneHolds, CarriedOut};
 ghost use Rattle.uss_law_dss.specs.Causes.{Cause};
+ghost use Rattle.uss_law_dss.specs.Grows.{Grows, IsOvnOf};
 ghost use Rattle.uss_law_dss.specs.Fits.{fits};
 ghost use Rattle.uss_law_dss.specs.Transcript.{calls, the_replies, contested, the_contested_replies};
 ghost use Rattle.uss_law_dss.specs.Telling.{telling, the_telling_replies};
@@ -133,8 +134,16 @@ pub fn ovns_belong_to_one_landing()
     ensures { (s : Service) → IsOrderly s → (l m : Landing) → Has s.landings l → Has s.landings m → l.ovn ≡ m.ovn → l ≡ m }
 {}
 
-/// The OVNs of the first 9,999,999,999,999,999 landings are OVNs, and they differ.
+/// No call takes anything out of the history, and an identifier that was removed is never there again.
+pub fn what_was_removed_stays_removed()
+    ensures grows { (s : Service) (calls : List (List ℕ × DssAsk)) → Grows s (state_after s calls) }
+    ensures flights { (s : Service) (calls : List (List ℕ × DssAsk)) (flight : ℕ) → IsOrderly s → Has s.retired_flights flight → (r : Recorded) → Has (state_after s calls).references r → r.reference.flight ≢ flight }
+    ensures tickets { (s : Service) (calls : List (List ℕ × DssAsk)) (ticket : ℕ) → IsOrderly s → Has s.retired_tickets ticket → (t : Ticket) → Has (state_after s calls).tickets t → t.id ≢ ticket }
+{}
+
+/// The OVNs of the first 9,999,999,999,999,999 landings write their numbers, they are OVNs, and they differ.
 pub fn ovns_of_landings()
+    ensures written { (n : ℕ) → n < 10 ^ 16 → IsOvnOf n (ovn_of n) }
     ensures valid { (n : ℕ) → IsOvn (ovn_of n) }
     ensures differ { (m n : ℕ) → m < 10 ^ 16 → n < 10 ^ 16 → ovn_of m ≡ ovn_of n → m ≡ n }
 {}
