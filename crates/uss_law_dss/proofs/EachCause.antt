@@ -116,18 +116,41 @@ put_means : (s : Service) (client : List ℕ) (flight : ℕ) (ovn : Option (List
 unfolding AllMean
 put_means s client flight ovn extents key state base ticket j = (
   (says_bad_put extents key).0,
-  ((says_others s client flight j).0,
-  (λ h. (let k = both (is_none ovn) (is_some (recorded_of flight s)) h in ((is_not_given ovn).0 k.0, (says_recorded s flight j).0 k.1)),
-  ((says_one_of flight s.retired_flights).0,
-  (λ h. (let k = both (is_some ovn) (is_none (recorded_of flight s)) h in ((is_given ovn).0 k.0, (says_not_recorded s flight j).0 k.1)),
-  ((stale_change s flight ovn j).0,
-  ((says_no_ticket s client ticket j).0,
-  ((says_uncovered s ticket extents j).0,
-  (λ h. (let k = both (is_strategic state) _ h in (k.0, (says_missing s flight extents key).0 k.1, lists_missing s client flight extents key j)),
-  (λ h. (let k = both (is_none ovn) (nat_le 4096 (length s.references)) h in inl (refl, (is_not_given ovn).0 k.0, (says_at_most 4096 (length s.references)).0 k.1)),
-  (λ h. inr (inl (refl, (says_last_version s flight j).0 h)),
-  (λ h. inr (inr (refl, (says_at_most 9999999999999999 (length s.landings)).0 h)),
-  tt))))))))))))
+  (
+    (says_others s client flight j).0,
+    (
+      λ h. (let k = both (is_none ovn) (is_some (recorded_of flight s)) h in ((is_not_given ovn).0 k.0, (says_recorded s flight j).0 k.1)),
+      (
+        (says_one_of flight s.retired_flights).0,
+        (
+          λ h. (let k = both (is_some ovn) (is_none (recorded_of flight s)) h in ((is_given ovn).0 k.0, (says_not_recorded s flight j).0 k.1)),
+          (
+            (stale_change s flight ovn j).0,
+            (
+              (says_no_ticket s client ticket j).0,
+              (
+                (says_uncovered s ticket extents j).0,
+                (
+                  λ h. (let k = both (is_strategic state) _ h in (k.0, (says_missing s flight extents key).0 k.1, lists_missing s client flight extents key j)),
+                  (
+                    λ h. (let k = both (is_none ovn) (nat_le 4096 (length s.references)) h in inl (refl, (is_not_given ovn).0 k.0, (says_at_most 4096 (length s.references)).0 k.1)),
+                    (
+                      λ h. inr (inl (refl, (says_last_version s flight j).0 h)),
+                      (
+                        λ h. inr (inr (refl, (says_at_most 9999999999999999 (length s.landings)).0 h)),
+                        tt,
+                      ),
+                    ),
+                  ),
+                ),
+              ),
+            ),
+          ),
+        ),
+      ),
+    ),
+  ),
+)
 
 means : (s : Service) (client : List ℕ) (ask : DssAsk) → IsOrderly s → AllMean (Cause s client ask) (tests_of s client ask)
 unfolding AllMean
@@ -142,8 +165,10 @@ means s client (TicketPut ticket area base) j = (
 means s client (TicketGet ticket) j = ((says_others_ticket s client ticket j).0, ((says_one_of ticket s.retired_tickets).0, ((says_not_there s ticket j).0, tt)))
 means s client (TicketRemove ticket version) j = (
   (says_others_ticket s client ticket j).0,
-  ((says_one_of ticket s.retired_tickets).0,
-  ((says_not_there s ticket j).0, ((says_other_than version 1).0, ((says_cited ticket s.references).0, tt)))),
+  (
+    (says_one_of ticket s.retired_tickets).0,
+    ((says_not_there s ticket j).0, ((says_other_than version 1).0, ((says_cited ticket s.references).0, tt))),
+  ),
 )
 
 -- ---- each cause makes a test hold

@@ -17,4 +17,5 @@ pub mod EachCarried
 pub mod WhoIsTold
 pub mod Means
 pub mod EachCause
+pub mod Private
 pub mod Growing

@@ -66,6 +66,7 @@ says_int_le a b = (λ h. record { le = holds (int_le a b) h }, λ h. passes (int
     holds : (c : Bool) → c ≡ true → T c
     holds true h = tt
     holds false h = cc
+
     passes : (c : Bool) → T c → c ≡ true
     passes true h = refl
     passes false h = absurd h
@@ -155,7 +156,7 @@ pub says_lies_in : (a b : Box4) → Says (lies_in a b) (LiesIn a b)
 unfolding lies_in
 says_lies_in a b =
     let sides = says_and _ _ (two_within b.rect.x1 a.rect.x1 a.rect.x2 b.rect.x2) (says_and _ _ (two_within b.rect.y1 a.rect.y1 a.rect.y2 b.rect.y2)
-        (says_and _ _ (two_within b.low a.low a.high b.high) (two_within b.start a.start a.end b.end))) in (
+    (says_and _ _ (two_within b.low a.low a.high b.high) (two_within b.start a.start a.end b.end))) in (
       λ h. (let k = sides.0 h in record { x1 = k.0.0; x2 = k.0.1; y1 = k.1.0.0; y2 = k.1.0.1; low = k.1.1.0.0; high = k.1.1.0.1; start = k.1.1.1.0; end = k.1.1.1.1 }),
       λ l. sides.1 ((l.x1, l.x2), ((l.y1, l.y2), ((l.low, l.high), (l.start, l.end)))),
     )
@@ -173,6 +174,7 @@ says_no_ticket s client ticket j =
     is_ticket_of : Option Ticket → Bool
     is_ticket_of None = false
     is_ticket_of (Some t) = same_text t.manager client
+
     opposite : (o : Option Ticket) → not (is_ticket_of o) ≡ is_no_ticket_of client o
     opposite None = refl
     opposite (Some t) = refl
@@ -197,8 +199,8 @@ misses flight extents key r = (not (r.reference.flight == flight) && any_shares 
 says_misses : (flight : ℕ) (extents : List Volume4D) (key : List (List ℕ)) (r : Recorded) → Says (misses flight extents key r) (IsMissing flight extents key r)
 says_misses flight extents key r =
     let m = says_and (not (r.reference.flight == flight) && any_shares r.extents extents) (not (in_key key r.reference))
-        (says_and (not (r.reference.flight == flight)) (any_shares r.extents extents) (says_not (r.reference.flight == flight) (says_equal r.reference.flight flight)) (any_shares_tells r.extents extents))
-        (says_in_key key r) in (
+    (says_and (not (r.reference.flight == flight)) (any_shares r.extents extents) (says_not (r.reference.flight == flight) (says_equal r.reference.flight flight)) (any_shares_tells r.extents extents))
+    (says_in_key key r) in (
       λ h. (let k = m.0 h in record { other = k.0.0; shares = k.0.1; lacked = k.1 }),
       λ i. m.1 ((i.other, i.shares), i.lacked),
     )

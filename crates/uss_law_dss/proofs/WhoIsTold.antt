@@ -21,7 +21,7 @@ use Rattle.uss_law_dss.proofs.EachEffect.{none_holds}
 use Rattle.uss_law_dss.proofs.EachCarried.{done}
 
 -- the call is refused and nothing changes, or it is carried out
-refused_or_done : (s : Service) (client : List ℕ) (ask : DssAsk) → IsOrderly s → ((r : DssRefusal) × (service_step s client ask ≡ (Refused r, s))) ⊎ CarriedOut s client ask (service_step s client ask)
+pub refused_or_done : (s : Service) (client : List ℕ) (ask : DssAsk) → IsOrderly s → ((r : DssRefusal) × (service_step s client ask ≡ (Refused r, s))) ⊎ CarriedOut s client ask (service_step s client ask)
 refused_or_done s client ask j = go (refusal_of s client ask) refl
   where
     go : (o : Option DssRefusal) → refusal_of s client ask ≡ o → ((r : DssRefusal) × (service_step s client ask ≡ (Refused r, s))) ⊎ CarriedOut s client ask (service_step s client ask)

@@ -8,6 +8,7 @@ pub mod Effects
 pub mod Told
 pub mod Carried
 pub mod Causes
+pub mod Shown
 pub mod Grows
 pub mod Transcript
 pub mod Telling

@@ -4,7 +4,7 @@
 //! `specs/Fits.antt` which replies fit a call. The functions below do nothing: their contracts carry the laws.
 #![tactic(auto)]
 
-ghost use Rattle.std.specs.Prelude.{◌≡◌, ◌≢◌, ◌↔◌, ◌<◌, ◌^◌, ◌+◌, ◌≤◌, ℕ, List, length, Any, IsTrue, true, Some};
+ghost use Rattle.std.specs.Prelude.{◌≡◌, ◌≢◌, ◌↔◌, ◌<◌, ◌^◌, ◌+◌, ◌≤◌, ℕ, List, length, Any, IsTrue, true, Some, None, is_some};
 ghost use Rattle.uss_vol4.specs.Volume.{Volume4D, Shares, ListsShare};
 ghost use Rattle.uss_intent.specs.declared.calls.DssAsk.{DssAsk};
 ghost use Rattle.uss_intent.specs.declared.calls.DssReply.TheVariants.{Landed, Removed, Refused};
@@ -25,6 +25,7 @@ ghost use Rattle.uss_law_dss.specs.Orderly.{IsOrderly};
 ghost use Rattle.uss_law_dss.specs.Told.{IsToldOf, Tells, TellsNobody, Keeps};
 ghost use Rattle.uss_law_dss.specs.Carried.{NoneHolds, CarriedOut};
 ghost use Rattle.uss_law_dss.specs.Causes.{Cause};
+ghost use Rattle.uss_law_dss.specs.Shown.{shown_in};
 ghost use Rattle.uss_law_dss.specs.Grows.{Grows, IsOvnOf};
 ghost use Rattle.uss_law_dss.specs.Fits.{fits};
 ghost use Rattle.uss_law_dss.specs.Transcript.{calls, the_replies, contested, the_contested_replies};
@@ -127,6 +128,12 @@ pub fn states_are_orderly()
     ensures new { IsOrderly empty }
     ensures step { (s : Service) (client : List ℕ) (ask : DssAsk) → IsOrderly s → IsOrderly (service_step s client ask).1 }
     ensures all { (calls : List (List ℕ × DssAsk)) → IsOrderly (state_after empty calls) }
+{}
+
+/// A reply shows the OVN of a reference to the client that manages it, and to no other; so does a refusal that lists what a key lacks.
+pub fn ovns_are_shown_to_their_managers()
+    ensures own { (s : Service) (client : List ℕ) (ask : DssAsk) (r : Reference) → IsOrderly s → Has (shown_in (service_step s client ask).0) r → r.manager ≡ client → is_some r.ovn ≡ true }
+    ensures others { (s : Service) (client : List ℕ) (ask : DssAsk) (r : Reference) → IsOrderly s → Has (shown_in (service_step s client ask).0) r → r.manager ≢ client → r.ovn ≡ None }
 {}
 
 /// An OVN belongs to one landing.
