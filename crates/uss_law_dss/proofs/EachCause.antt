@@ -1,5 +1,5 @@
 -- A call is refused for a cause, and for the one with the least number.
-use Rattle.std.proofs.Common.{ℕ, ◌≤◌, ◌≡◌, ◌≢◌, ◌↔◌, ◌⊎◌, inl, inr, Bool, true, false, cond, not, ◌&&◌, ◌==◌, nat_le, List, [], ◌∷◌, length, Option, Some, None, is_some, is_none, refl, ap, sym, subst, ◌∙◌, arith}
+use Rattle.std.proofs.Common.{ℕ, ◌≤◌, ◌≡◌, ◌≢◌, ◌↔◌, ◌⊎◌, inl, inr, Bool, true, false, cond, ◌&&◌, nat_le, List, [], ◌∷◌, length, Option, Some, None, is_some, is_none, refl, ap, sym, subst, ◌∙◌, arith}
 use Rattle.uss_vol4.specs.Volume.{Volume4D}
 use Rattle.uss_intent.specs.declared.records.Recorded.{Recorded}
 use Rattle.uss_intent.specs.declared.records.Ticket.{Ticket}
@@ -18,11 +18,11 @@ use Rattle.uss_law_dss.specs.Refusals.{is_stale_change, is_at_last_version, test
 use Rattle.uss_law_dss.specs.Step.{with_recorded, with_ticket, after_remove, after_ticket_remove, accepted, unless_refused, service_step}
 use Rattle.uss_law_dss.specs.Orderly.{IsOrderly}
 use Rattle.uss_law_dss.specs.Carried.{NoneHolds, CarriedOut}
-use Rattle.uss_law_dss.specs.Causes.{IsRecorded, Whatever, MeetsLimit, GetCause, PutCause, RemoveCause, TicketPutCause, TicketGetCause, TicketRemoveCause, Cause}
-use Rattle.uss_law_dss.proofs.Tests.{both, and_true, le_is, not_false, not_true, not_both, some_same}
-use Rattle.uss_law_dss.proofs.Means.{Says, says_less, says_at_most, says_other_than, says_recorded, says_not_recorded, says_there, says_not_there, says_others, says_others_ticket, says_stale, says_last_version, says_one_of, says_cited, says_bad_put, says_uncovered, says_no_ticket, says_missing, lists_missing}
+use Rattle.uss_law_dss.specs.Causes.{IsRecorded, MeetsLimit, GetCause, PutCause, RemoveCause, TicketPutCause, TicketGetCause, TicketRemoveCause, Cause}
+use Rattle.uss_law_dss.proofs.Tests.{both, and_true, le_is, not_both, some_same}
+use Rattle.uss_law_dss.proofs.Means.{Says, says_at_most, says_other_than, says_recorded, says_not_recorded, says_there, says_not_there, says_others, says_others_ticket, says_stale, says_last_version, says_one_of, says_cited, says_bad_put, says_uncovered, says_no_ticket, says_missing, lists_missing}
 use Rattle.uss_law_dss.proofs.EachEffect.{none_holds}
-use Rattle.uss_law_dss.proofs.EachCarried.{done, first_none}
+use Rattle.uss_law_dss.proofs.EachCarried.{done}
 
 -- ---- the first of some tests
 

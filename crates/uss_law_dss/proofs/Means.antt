@@ -1,8 +1,8 @@
 -- What each test of a call means: the cause of its refusal.
-use Rattle.std.proofs.Common.{ℕ, ◌<◌, ◌≤◌, ◌≡◌, ◌≢◌, ◌↔◌, ◌⊎◌, inl, inr, Bool, true, false, not, ◌&&◌, ◌||◌, ◌==◌, T, cond, nat_lt, nat_le, List, [], ◌∷◌, length, filter, Option, Some, None, is_some, is_none, refl, ap, sym, subst, ◌∙◌, arith, ℤ}
+use Rattle.std.proofs.Common.{ℕ, ◌<◌, ◌≤◌, ◌≡◌, ◌≢◌, ◌↔◌, ◌⊎◌, inl, inr, Bool, true, false, not, ◌&&◌, ◌||◌, ◌==◌, T, cond, nat_lt, nat_le, List, [], ◌∷◌, length, filter, Option, Some, None, is_some, is_none, refl, ap, sym, subst, arith, ℤ}
 use Rattle.std.specs.Prelude.{◌≤ℤ◌, int_le}
 use Rattle.uss_vol4.specs.declared.Box4.{Box4}
-use Rattle.uss_vol4.specs.Volume.{Volume4D, ListsShare}
+use Rattle.uss_vol4.specs.Volume.{Volume4D}
 use Rattle.uss_vol4.specs.Bounding.{bounding_box, box_of}
 use Rattle.uss_vol4.specs.Sharing.{any_shares}
 use Rattle.uss_intent.specs.declared.records.Recorded.{Recorded}
@@ -11,12 +11,12 @@ use Rattle.uss_intent.specs.Same.{same_text}
 use Rattle.uss_intent.specs.Numbers.{is_one_of}
 use Rattle.uss_law_dss.specs.Lists.{Has}
 use Rattle.uss_law_dss.specs.Service.{Service, recorded_of, ticket_of, has_ovn, in_key, relevant, lacking, lies_in}
-use Rattle.uss_law_dss.specs.Refusals.{vertex_count, is_bad_put, is_others, is_others_ticket, is_stale, is_stale_change, is_no_ticket_of, is_uncovered, is_cited, is_at_last_version, shown_all}
+use Rattle.uss_law_dss.specs.Refusals.{vertex_count, is_bad_put, is_others, is_others_ticket, is_stale, is_no_ticket_of, is_uncovered, is_cited, is_at_last_version, shown_all}
 use Rattle.uss_law_dss.specs.Orderly.{IsOrderly}
 use Rattle.uss_law_dss.specs.Carried.{Lists}
 use Rattle.uss_law_dss.specs.Causes.{IsRecorded, IsThere, Whatever, LiesIn, IsMissing}
 use Rattle.uss_law_dss.proofs.Lists.{has_filter, has_filtered, has_passed, list_any_has, any_true, any_false, none_passes}
-use Rattle.uss_law_dss.proofs.Tests.{same_number, equal_number, other_number, unequal_number, less_is, less_test, le_is, le_test, same_bytes, equal_bytes, not_false, not_true, not_both, both, and_true, either, left_true, right_true}
+use Rattle.uss_law_dss.proofs.Tests.{same_number, equal_number, unequal_number, less_is, less_test, le_is, le_test, same_bytes, equal_bytes, not_true, not_both, both, and_true, left_true, right_true}
 use Rattle.uss_law_dss.proofs.Founds.{recorded_is, recorded_has, ticket_is, ticket_has}
 use Rattle.uss_law_dss.proofs.EachEffect.{is_ovn}
 use Rattle.uss_law_dss.proofs.EachCarried.{lists_passed}

@@ -1,5 +1,5 @@
 -- A reply shows a reference's OVN to its manager, and to nobody else.
-use Rattle.std.proofs.Common.{ℕ, ◌≡◌, ◌≢◌, ◌⊎◌, inl, inr, Bool, true, false, List, [], ◌∷◌, Option, Some, None, is_some, refl, ap, sym, subst, ◌∙◌}
+use Rattle.std.proofs.Common.{ℕ, ◌≡◌, ◌≢◌, inl, inr, Bool, true, false, List, [], ◌∷◌, None, is_some, refl, ap, sym, subst, ◌∙◌}
 use Rattle.uss_intent.specs.declared.records.Recorded.{Recorded}
 use Rattle.uss_intent.specs.declared.records.Reference.{Reference}
 use Rattle.uss_intent.specs.declared.calls.DssAsk.{DssAsk}
@@ -78,7 +78,7 @@ done_private s client (Get flight) out x j c h = only (IsPrivate client) c.got x
 done_private s client (Put flight ovn extents key state base ticket) out x j c h =
     only (IsPrivate client) c.new.reference x (own_private client c.new.reference c.manager (ap is_some c.ovn_is)) (subst (λ (a : DssReply). Has (shown_in a) x) c.reply h)
 done_private s client (Remove flight ovn) out x j c h =
-    only (IsPrivate client) c.recorded.reference x (own_private client c.recorded.reference c.manager (ap is_some c.ovn_is)) (subst (λ (a : DssReply). Has (shown_in a) x) c.reply h)
+    only (IsPrivate client) c.recorded.reference x (own_private client c.recorded.reference c.named.manager (ap is_some c.named.ovn_is)) (subst (λ (a : DssReply). Has (shown_in a) x) c.reply h)
 done_private s client (TicketPut ticket area base) out x j c h = absurd (subst (λ (a : DssReply). Has (shown_in a) x) c.reply h)
 done_private s client (TicketGet ticket) out x j c h = absurd (subst (λ (a : DssReply). Has (shown_in a) x) c.reply h)
 done_private s client (TicketRemove ticket version) out x j c h = absurd (subst (λ (a : DssReply). Has (shown_in a) x) c.reply h)

@@ -1,5 +1,5 @@
 -- Who is told, by the reply of a call.
-use Rattle.std.proofs.Common.{ℕ, ◌≡◌, ◌≢◌, ◌⊎◌, inl, inr, Bool, true, false, ◌==◌, List, Option, Some, None, refl, ap, sym, subst, ◌∙◌}
+use Rattle.std.proofs.Common.{ℕ, ◌≡◌, ◌⊎◌, inl, inr, Bool, true, false, ◌==◌, List, Option, Some, None, refl, ap, sym, subst, ◌∙◌}
 use Rattle.uss_intent.specs.declared.records.Reference.{Reference}
 use Rattle.uss_intent.specs.declared.records.Ticket.{Ticket}
 use Rattle.uss_intent.specs.declared.records.Subscriber.{Subscriber}
@@ -12,7 +12,7 @@ use Rattle.uss_law_dss.specs.Lists.{Has}
 use Rattle.uss_law_dss.specs.Service.{Service}
 use Rattle.uss_law_dss.specs.Refusals.{tests_of, refusal_of}
 use Rattle.uss_law_dss.specs.Step.{accepted, unless_refused, service_step}
-use Rattle.uss_law_dss.specs.Orderly.{IsOrderly, id_of}
+use Rattle.uss_law_dss.specs.Orderly.{IsOrderly}
 use Rattle.uss_law_dss.specs.Told.{IsToldOf, Tells, TellsNobody, Keeps}
 use Rattle.uss_law_dss.specs.Carried.{CarriedOut}
 use Rattle.uss_law_dss.proofs.Tests.{same_number, other_number, some_same}

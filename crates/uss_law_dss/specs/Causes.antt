@@ -58,7 +58,8 @@ GetCause s flight Absent = IsRecorded s flight Whatever → ⊥
 GetCause s flight _ = ⊥
 
 abbrev pub PutCause : Service → List ℕ → ℕ → Option (List ℕ) → List Volume4D → List (List ℕ) → State → ℕ → DssRefusal → Type 0
-PutCause s client flight ovn extents key state ticket BadCall = (length extents ≡ 0) ⊎ ((64 < length extents) ⊎ ((10000 < vertex_count extents) ⊎ (1024 < length key)))
+PutCause s client flight ovn extents key state ticket BadCall =
+    (length extents ≡ 0) ⊎ ((64 < length extents) ⊎ ((10000 < vertex_count extents) ⊎ (1024 < length key)))
 PutCause s client flight ovn extents key state ticket NotYours = IsRecorded s flight (λ r. r.reference.manager ≢ client)
 PutCause s client flight ovn extents key state ticket Exists = (ovn ≡ None) × IsRecorded s flight Whatever
 PutCause s client flight ovn extents key state ticket Retired = Has s.retired_flights flight
@@ -67,7 +68,9 @@ PutCause s client flight ovn extents key state ticket StaleOvn = (ovn ≢ None) 
 PutCause s client flight ovn extents key state ticket NoTicket = IsThere s ticket (λ t. t.manager ≡ client) → ⊥
 PutCause s client flight ovn extents key state ticket NotCovered = IsThere s ticket (λ t. LiesIn (bounding_box extents) (box_of t.area) → ⊥)
 PutCause s client flight ovn extents key state ticket (MissingKey listed) =
-    (is_strategic state ≡ true) × ((r : Recorded) × Has s.references r × IsMissing flight extents key r) × Lists s client (IsMissing flight extents key) listed
+    (is_strategic state ≡ true)
+    × ((r : Recorded) × Has s.references r × IsMissing flight extents key r)
+    × Lists s client (IsMissing flight extents key) listed
 PutCause s client flight ovn extents key state ticket TicketInUse = ⊥
 PutCause s client flight ovn extents key state ticket (Full limit) = MeetsLimit s flight ovn limit
 

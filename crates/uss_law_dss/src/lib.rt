@@ -71,7 +71,8 @@ pub fn last_calls()
 pub fn sharing_is_of_points()
     ensures relevant { (s : Service) (flight : ℕ) (extents : List Volume4D) (r : Recorded)
         → Has (relevant flight extents s) r ↔ (Has s.references r × (r.reference.flight ≢ flight) × ListsShare r.extents extents) }
-    ensures found { (area : Volume4D) (rs : List Recorded) (r : Recorded) → Has (found_in area rs) r ↔ (Has rs r × Any (λ v. Shares v area) r.extents) }
+    ensures found { (area : Volume4D) (rs : List Recorded) (r : Recorded)
+        → Has (found_in area rs) r ↔ (Has rs r × Any (λ v. Shares v area) r.extents) }
     ensures told { (client : List ℕ) (extents : List Volume4D) (t : Ticket)
         → IsTrue (is_told client extents t) ↔ ((t.manager ≢ client) × Any (λ v. Shares v t.area) extents) }
 {}
@@ -96,7 +97,8 @@ pub fn who_is_told()
 
 /// A call of which no test holds is carried out: its reply is no refusal, and the state afterwards has what the call is for.
 pub fn calls_are_carried_out()
-    ensures { (s : Service) (client : List ℕ) (ask : DssAsk) → IsOrderly s → NoneHolds (tests_of s client ask) → CarriedOut s client ask (service_step s client ask) }
+    ensures { (s : Service) (client : List ℕ) (ask : DssAsk)
+        → IsOrderly s → NoneHolds (tests_of s client ask) → CarriedOut s client ask (service_step s client ask) }
 {}
 
 /// The tests of a call stand in the order of the refusals' numbers, so the refusal with the least number is given.
@@ -106,21 +108,27 @@ pub fn refusals_come_in_order()
 
 /// A call is refused exactly where one of its tests holds, and by the first of these.
 pub fn refused_by_the_first_test()
-    ensures { (s : Service) (client : List ℕ) (ask : DssAsk) (refusal : DssRefusal) → ((service_step s client ask).0 ≡ Refused refusal) ↔ (refusal_of s client ask ≡ Some refusal) }
+    ensures { (s : Service) (client : List ℕ) (ask : DssAsk) (refusal : DssRefusal)
+        → ((service_step s client ask).0 ≡ Refused refusal) ↔ (refusal_of s client ask ≡ Some refusal) }
 {}
 
 /// The tests mean the causes: a refusal has its cause, no cause has a lesser number than the refusal that is given, a call with a cause
 /// is refused, and a call without any is carried out.
 pub fn refusals_have_causes()
-    ensures caused { (s : Service) (client : List ℕ) (ask : DssAsk) (refusal : DssRefusal) → IsOrderly s → (service_step s client ask).0 ≡ Refused refusal → Cause s client ask refusal }
-    ensures least { (s : Service) (client : List ℕ) (ask : DssAsk) (refusal other : DssRefusal) → IsOrderly s → (service_step s client ask).0 ≡ Refused refusal → Cause s client ask other → refusal_number refusal ≤ refusal_number other }
-    ensures refused { (s : Service) (client : List ℕ) (ask : DssAsk) (other : DssRefusal) → IsOrderly s → Cause s client ask other → (refusal : DssRefusal) × ((service_step s client ask).0 ≡ Refused refusal) }
-    ensures carried_out { (s : Service) (client : List ℕ) (ask : DssAsk) → IsOrderly s → ((refusal : DssRefusal) → Cause s client ask refusal → ⊥) → CarriedOut s client ask (service_step s client ask) }
+    ensures caused { (s : Service) (client : List ℕ) (ask : DssAsk) (refusal : DssRefusal)
+        → IsOrderly s → (service_step s client ask).0 ≡ Refused refusal → Cause s client ask refusal }
+    ensures least { (s : Service) (client : List ℕ) (ask : DssAsk) (refusal other : DssRefusal)
+        → IsOrderly s → (service_step s client ask).0 ≡ Refused refusal → Cause s client ask other → refusal_number refusal ≤ refusal_number other }
+    ensures refused { (s : Service) (client : List ℕ) (ask : DssAsk) (other : DssRefusal)
+        → IsOrderly s → Cause s client ask other → (refusal : DssRefusal) × ((service_step s client ask).0 ≡ Refused refusal) }
+    ensures carried_out { (s : Service) (client : List ℕ) (ask : DssAsk)
+        → IsOrderly s → ((refusal : DssRefusal) → Cause s client ask refusal → ⊥) → CarriedOut s client ask (service_step s client ask) }
 {}
 
 /// A refused call changes nothing.
 pub fn refusals_change_nothing()
-    ensures { (s : Service) (client : List ℕ) (ask : DssAsk) (refusal : DssRefusal) → refusal_of s client ask ≡ Some refusal → service_step s client ask ≡ (Refused refusal, s) }
+    ensures { (s : Service) (client : List ℕ) (ask : DssAsk) (refusal : DssRefusal)
+        → refusal_of s client ask ≡ Some refusal → service_step s client ask ≡ (Refused refusal, s) }
 {}
 
 /// What holds of a new service, and after each call where it held before it: so it holds after all calls.
@@ -132,8 +140,10 @@ pub fn states_are_orderly()
 
 /// A reply shows the OVN of a reference to the client that manages it, and to no other; so does a refusal that lists what a key lacks.
 pub fn ovns_are_shown_to_their_managers()
-    ensures own { (s : Service) (client : List ℕ) (ask : DssAsk) (r : Reference) → IsOrderly s → Has (shown_in (service_step s client ask).0) r → r.manager ≡ client → is_some r.ovn ≡ true }
-    ensures others { (s : Service) (client : List ℕ) (ask : DssAsk) (r : Reference) → IsOrderly s → Has (shown_in (service_step s client ask).0) r → r.manager ≢ client → r.ovn ≡ None }
+    ensures own { (s : Service) (client : List ℕ) (ask : DssAsk) (r : Reference)
+        → IsOrderly s → Has (shown_in (service_step s client ask).0) r → r.manager ≡ client → is_some r.ovn ≡ true }
+    ensures others { (s : Service) (client : List ℕ) (ask : DssAsk) (r : Reference)
+        → IsOrderly s → Has (shown_in (service_step s client ask).0) r → r.manager ≢ client → r.ovn ≡ None }
 {}
 
 /// An OVN belongs to one landing.
@@ -144,8 +154,10 @@ pub fn ovns_belong_to_one_landing()
 /// No call takes anything out of the history, and an identifier that was removed is never there again.
 pub fn what_was_removed_stays_removed()
     ensures grows { (s : Service) (calls : List (List ℕ × DssAsk)) → Grows s (state_after s calls) }
-    ensures flights { (s : Service) (calls : List (List ℕ × DssAsk)) (flight : ℕ) → IsOrderly s → Has s.retired_flights flight → (r : Recorded) → Has (state_after s calls).references r → r.reference.flight ≢ flight }
-    ensures tickets { (s : Service) (calls : List (List ℕ × DssAsk)) (ticket : ℕ) → IsOrderly s → Has s.retired_tickets ticket → (t : Ticket) → Has (state_after s calls).tickets t → t.id ≢ ticket }
+    ensures flights { (s : Service) (calls : List (List ℕ × DssAsk)) (flight : ℕ)
+        → IsOrderly s → Has s.retired_flights flight → (r : Recorded) → Has (state_after s calls).references r → r.reference.flight ≢ flight }
+    ensures tickets { (s : Service) (calls : List (List ℕ × DssAsk)) (ticket : ℕ)
+        → IsOrderly s → Has s.retired_tickets ticket → (t : Ticket) → Has (state_after s calls).tickets t → t.id ≢ ticket }
 {}
 
 /// The OVNs of the first 9,999,999,999,999,999 landings write their numbers, they are OVNs, and they differ.
