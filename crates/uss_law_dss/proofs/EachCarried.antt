@@ -1,5 +1,5 @@
 -- A call of which no test holds is carried out.
-use Rattle.std.proofs.Common.{ℕ, ◌<◌, ◌≡◌, ◌≢◌, ◌↔◌, ◌⊎◌, inl, inr, Bool, true, false, cond, not, ◌&&◌, ◌==◌, List, [], ◌∷◌, ◌++◌, length, Option, Some, None, map, filter, is_none, refl, ap, sym, subst, ◌∙◌, arith, ℤ}
+use Rattle.std.proofs.Common.{ℕ, ◌<◌, ◌≡◌, ◌≢◌, ◌↔◌, inl, inr, Bool, true, false, cond, not, ◌==◌, List, [], ◌∷◌, ◌++◌, length, Option, Some, None, map, filter, is_none, refl, ap, sym, subst, arith}
 use Rattle.uss_shape.specs.Shape.{IsLeast, IsGreatest}
 use Rattle.uss_shape.proofs.Extreme.{least_from, greatest_from, least_of, greatest_of}
 use Rattle.uss_vol4.specs.declared.Box4.{Box4}
@@ -12,19 +12,18 @@ use Rattle.uss_intent.specs.declared.records.Ticket.{Ticket}
 use Rattle.uss_intent.specs.declared.records.State.{State}
 use Rattle.uss_intent.specs.declared.calls.DssAsk.{DssAsk}
 use Rattle.uss_intent.specs.declared.calls.DssAsk.TheVariants.{Query, Get, Put, Remove, TicketPut, TicketGet, TicketRemove}
-use Rattle.uss_intent.specs.declared.calls.DssReply.{DssReply}
 use Rattle.uss_intent.specs.declared.calls.DssReply.TheVariants.{Got, TicketGot}
 use Rattle.uss_intent.specs.declared.calls.DssRefusal.{DssRefusal}
 use Rattle.uss_intent.specs.Same.{same_text}
 use Rattle.uss_law_dss.specs.Lists.{Has}
 use Rattle.uss_law_dss.specs.Service.{Service, recorded_of, ticket_of, shown_to, reach}
-use Rattle.uss_law_dss.specs.Refusals.{shown_all, is_others, is_others_ticket, is_stale, is_cited, tests_of, first_of, refusal_of}
-use Rattle.uss_law_dss.specs.Step.{put_recorded, put_ticket, subscribers, old_extents, next_version, landed, landing_of, after_put, without_flight, without_ticket, after_remove, new_ticket, after_ticket_put, after_ticket_remove, with_recorded, with_ticket, found_in, accepted, unless_refused, service_step}
-use Rattle.uss_law_dss.specs.Orderly.{Ascend, IsOrderly, flight_recorded}
+use Rattle.uss_law_dss.specs.Refusals.{shown_all, is_others, is_others_ticket, is_stale, is_cited, tests_of, first_of}
+use Rattle.uss_law_dss.specs.Step.{put_recorded, put_ticket, subscribers, old_extents, next_version, landed, landing_of, after_put, after_remove, new_ticket, after_ticket_put, after_ticket_remove, with_recorded, with_ticket, found_in, accepted, unless_refused, service_step}
+use Rattle.uss_law_dss.specs.Orderly.{IsOrderly, flight_recorded}
 use Rattle.uss_law_dss.specs.Told.{Reach, IsToldOfPut, IsToldOfRemove}
 use Rattle.uss_law_dss.specs.Carried.{NoneHolds, IsShown, flight_shown, Lists, Finds, Gets, Records, Retires, Makes, Shows, TakesOut, CarriedOut}
 use Rattle.uss_law_dss.proofs.Lists.{has_filter, has_filtered, has_passed, has_map, mapped, any_false}
-use Rattle.uss_law_dss.proofs.Tests.{same_number, equal_number, other_number, unequal_number, same_bytes, equal_bytes, not_true, not_false, neither, none_is}
+use Rattle.uss_law_dss.proofs.Tests.{other_number, unequal_number, same_bytes, equal_bytes, not_true, not_false, neither}
 use Rattle.uss_law_dss.proofs.Placed.{put_there, put_keeps, put_others, put_ticket_there, put_ticket_keeps, put_ticket_others, ascend_filter, ascend_map}
 use Rattle.uss_law_dss.proofs.Points.{reach_tells}
 use Rattle.uss_law_dss.proofs.Founds.{recorded_has, ticket_has, not_recorded}
@@ -128,7 +127,7 @@ put_done s client flight ovn extents key state base ticket j all =
       end = greatest_end extents some;
       ovn_is = refl;
       created = λ n. (let o = created (recorded_of flight s) ovn all.1.1.0 n in (ap next_version o, not_recorded s flight o));
-      changed = λ o e. (let c = change o e in let h = recorded_has s flight c.0 c.1 in (c.0, h.0, h.1, c.2, c.3, ap next_version c.1));
+      changed = λ o e. (let c = change o e in let h = recorded_has s flight c.0 c.1 in (c.0, record { there = h.0; flight_is = h.1; manager = c.2; ovn_is = c.3 }, ap next_version c.1));
       references = λ r. (
         λ h. put_others new s.references r j.references_ascend h,
         λ k. elim k [
@@ -153,10 +152,7 @@ remove_done s client flight ovn (Some r) e j y n k =
     record {
       recorded = r;
       told = subscribers client r.extents s.tickets;
-      there = h.0;
-      flight_is = h.1;
-      manager = same_bytes r.reference.manager client (not_false _ y);
-      ovn_is = is_ovn r.reference.ovn ovn (not_false _ k);
+      named = record { there = h.0; flight_is = h.1; manager = same_bytes r.reference.manager client (not_false _ y); ovn_is = is_ovn r.reference.ovn ovn (not_false _ k) };
       reply = refl;
       references = λ q. (
         λ i. (has_filter p s.references q i, (let d = other_number q.reference.flight r.reference.flight (not_true _ (has_passed p s.references q i)) in let f = h.1 in omega arith)),

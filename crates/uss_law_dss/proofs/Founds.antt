@@ -1,5 +1,5 @@
 -- Look-ups in ascending lists find what is there.
-use Rattle.std.proofs.Common.{ℕ, ◌≡◌, ◌≢◌, ◌==◌, ◌⊎◌, inl, inr, Bool, true, false, cond, List, [], ◌∷◌, Option, Some, None, refl, ap, sym, ◌∙◌, arith}
+use Rattle.std.proofs.Common.{ℕ, ◌≡◌, ◌≢◌, ◌==◌, ◌⊎◌, inl, inr, Bool, true, false, cond, List, [], ◌∷◌, Some, None, refl, ap, ◌∙◌, arith}
 use Rattle.std.specs.List.{find}
 use Rattle.uss_intent.specs.declared.records.Recorded.{Recorded}
 use Rattle.uss_intent.specs.declared.records.Ticket.{Ticket}

@@ -14,3 +14,8 @@ pub mod Points
 pub mod Founds
 pub mod TellsThose
 pub mod EachCarried
+pub mod WhoIsTold
+pub mod Means
+pub mod EachCause
+pub mod Private
+pub mod Growing

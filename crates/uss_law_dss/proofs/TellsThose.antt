@@ -1,5 +1,5 @@
 -- The tickets whose index rises, and the subscribers that are named, are those that share points.
-use Rattle.std.proofs.Common.{ℕ, ◌≡◌, ◌≢◌, ◌↔◌, ◌⊎◌, inl, inr, Bool, true, false, ◌||◌, ◌+◌, List, [], ◌∷◌, ◌++◌, Option, Some, None, map, filter, Any, IsTrue, refl, ap, sym, subst, ◌∙◌, arith, if◌then◌else◌}
+use Rattle.std.proofs.Common.{ℕ, ◌≡◌, ◌↔◌, ◌⊎◌, inl, inr, Bool, true, false, ◌||◌, ◌+◌, List, [], ◌∷◌, ◌++◌, Option, Some, None, map, filter, IsTrue, refl, sym, subst, ◌∙◌, if◌then◌else◌}
 use Rattle.std.proofs.lemmas.List.Folds.{list_any-append}
 use Rattle.uss_vol4.specs.Volume.{Volume4D}
 use Rattle.uss_vol4.specs.Sharing.{shares}
@@ -12,7 +12,7 @@ use Rattle.uss_law_dss.specs.Step.{is_told, raised, subscribers, old_extents}
 use Rattle.uss_law_dss.specs.Orderly.{Ascend, IsOrderly, id_of}
 use Rattle.uss_law_dss.specs.Told.{Reach, RecordedReach, IsToldOfPut, IsToldOfRemove, named, ticket_named, Becomes, InPlace, Tells}
 use Rattle.uss_law_dss.proofs.Lists.{has_filter, has_filtered, has_passed, has_map, mapped}
-use Rattle.uss_law_dss.proofs.Tests.{either, left_true, right_true}
+use Rattle.uss_law_dss.proofs.Tests.{left_true, right_true}
 use Rattle.uss_law_dss.proofs.Placed.{ascend_filter, ascend_map}
 use Rattle.uss_law_dss.proofs.Points.{reach_tells, told_by_points}
 use Rattle.uss_law_dss.proofs.Founds.{recorded_is, recorded_has}

@@ -28,6 +28,9 @@ not_less a b h = grind (arith, nat_tests)
 pub not_le : (a b : ℕ) → nat_le a b ≡ false → b < a
 not_le a b h = grind (arith, nat_tests)
 
+pub le_is : (a b : ℕ) → nat_le a b ≡ true → a ≤ b
+le_is a b h = grind (arith, nat_tests)
+
 pub le_test : (a b : ℕ) → a ≤ b → nat_le a b ≡ true
 le_test a b h = grind (arith, nat_tests)
 

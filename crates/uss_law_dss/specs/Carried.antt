@@ -1,5 +1,5 @@
 -- What a call does where none of its tests holds, in the service's own words: what is shown, recorded, told, made and gone.
-use Rattle.std.specs.Prelude.{ℕ, ◌+◌, ◌<◌, ◌≡◌, ◌≢◌, ◌⊎◌, ◌↔◌, Bool, false, List, [], ◌∷◌, ◌++◌, length, Option, Some, None}
+use Rattle.std.specs.Prelude.{ℕ, ◌+◌, ◌≡◌, ◌≢◌, ◌⊎◌, ◌↔◌, Bool, false, List, [], ◌∷◌, ◌++◌, length, Option, Some, None}
 use Rattle.uss_shape.specs.Shape.{IsLeast, IsGreatest}
 use Rattle.uss_vol4.specs.Volume.{Volume4D}
 use Rattle.uss_intent.specs.declared.records.Reference.{Reference}
@@ -53,6 +53,13 @@ pub record Gets (s : Service) (client : List ℕ) (flight : ℕ) (out : DssReply
   pub reply : out.0 ≡ Got got
   pub same : out.1 ≡ s
 
+-- the recorded reference that a change or a removal names: the client's own, by its OVN
+pub record IsNamed (s : Service) (client : List ℕ) (flight : ℕ) (ovn : List ℕ) (r : Recorded) : Type 0 where
+  pub there : Has s.references r
+  pub flight_is : r.reference.flight ≡ flight
+  pub manager : r.reference.manager ≡ client
+  pub ovn_is : r.reference.ovn ≡ Some ovn
+
 -- a Put: the reference is recorded in place of the flight's former one, and its landing is the last
 pub record Records (s : Service) (client : List ℕ) (flight : ℕ) (ovn : Option (List ℕ)) (extents : List Volume4D) (state : State) (base : List ℕ) (ticket : ℕ) (out : DssReply × Service) : Type 0 where
   pub new : Recorded
@@ -73,7 +80,7 @@ pub record Records (s : Service) (client : List ℕ) (flight : ℕ) (ovn : Optio
   pub ovn_is : new.reference.ovn ≡ Some (ovn_of (length s.landings + 1))
   -- in version 1 where it is created, and in the next one where it is changed
   pub created : ovn ≡ None → (new.reference.version ≡ 1) × ((r : Recorded) → Has s.references r → r.reference.flight ≢ flight)
-  pub changed : (o : List ℕ) → ovn ≡ Some o → (r : Recorded) × Has s.references r × (r.reference.flight ≡ flight) × (r.reference.manager ≡ client) × (r.reference.ovn ≡ Some o) × (new.reference.version ≡ r.reference.version + 1)
+  pub changed : (o : List ℕ) → ovn ≡ Some o → (r : Recorded) × IsNamed s client flight o r × (new.reference.version ≡ r.reference.version + 1)
   pub references : (r : Recorded) → Has out.1.references r ↔ ((new ≡ r) ⊎ (Has s.references r × (r.reference.flight ≢ flight)))
   pub tickets : Tells (IsToldOfPut s client flight extents) s.tickets out.1.tickets told
   pub landings : out.1.landings ≡ s.landings ++ landing ∷ []
@@ -86,10 +93,7 @@ pub record Records (s : Service) (client : List ℕ) (flight : ℕ) (ovn : Optio
 pub record Retires (s : Service) (client : List ℕ) (flight : ℕ) (ovn : List ℕ) (out : DssReply × Service) : Type 0 where
   pub recorded : Recorded
   pub told : List Subscriber
-  pub there : Has s.references recorded
-  pub flight_is : recorded.reference.flight ≡ flight
-  pub manager : recorded.reference.manager ≡ client
-  pub ovn_is : recorded.reference.ovn ≡ Some ovn
+  pub named : IsNamed s client flight ovn recorded
   pub reply : out.0 ≡ Removed recorded.reference told
   pub references : (r : Recorded) → Has out.1.references r ↔ (Has s.references r × (r.reference.flight ≢ flight))
   pub tickets : Tells (IsToldOfRemove s client flight) s.tickets out.1.tickets told

@@ -1,7 +1,6 @@
 -- Worked calls of a service that is nearly full. Of its state only what the calls look at is filled in.
-use Rattle.std.specs.Prelude.{ℕ, List, [], ◌∷◌, map, codes, Some, None, pos}
+use Rattle.std.specs.Prelude.{ℕ, List, [], ◌∷◌, map, codes, Some, None}
 use Rattle.std.specs.List.{range_with_len}
-use Rattle.uss_intent.specs.declared.records.Recorded.{Recorded}
 use Rattle.uss_intent.specs.declared.records.Reference.{Reference}
 use Rattle.uss_intent.specs.declared.records.State.TheVariants.{Accepted, Contingent}
 use Rattle.uss_intent.specs.declared.calls.DssAsk.{DssAsk}

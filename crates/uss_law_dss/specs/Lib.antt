@@ -7,6 +7,9 @@ pub mod Orderly
 pub mod Effects
 pub mod Told
 pub mod Carried
+pub mod Causes
+pub mod Shown
+pub mod Grows
 pub mod Transcript
 pub mod Telling
 pub mod Keyed

@@ -1,5 +1,5 @@
 -- Worked calls of two clients that are refused, each kind of call for each of its reasons; and calls at a limit that are not.
-use Rattle.std.specs.Prelude.{ℕ, ℤ, neg_ℤ, List, [], ◌∷◌, ◌++◌, map, replicate, codes, Option, Some, None, pos}
+use Rattle.std.specs.Prelude.{ℕ, neg_ℤ, List, [], ◌∷◌, ◌++◌, map, replicate, codes, Some, None, pos}
 use Rattle.uss_shape.specs.Shape.{corners}
 use Rattle.uss_vol4.specs.Volume.{Volume4D}
 use Rattle.uss_intent.specs.declared.records.Reference.{Reference}

@@ -1,7 +1,7 @@
 -- The state of the discovery service, and what is looked up in it.
 -- The service is the DSS of ASTM F3548-21 in the small: references of operational intents, subscriptions (one for each job of a
 -- supplier, here called tickets) and opaque version numbers (OVNs). Its rules are this project's own.
-use Rattle.std.specs.Prelude.{ℕ, zero, suc, ◌+◌, ◌/◌, ◌%◌, Bool, true, false, not, ◌&&◌, ◌==◌, List, [], ◌∷◌, ◌++◌, find, filter, codes, Option, Some, None, int_le, if◌then◌else◌}
+use Rattle.std.specs.Prelude.{ℕ, zero, suc, ◌+◌, ◌/◌, ◌%◌, Bool, false, not, ◌&&◌, ◌==◌, List, [], ◌∷◌, ◌++◌, find, filter, codes, Option, Some, None, int_le, if◌then◌else◌}
 use Rattle.std.specs.List.{list_any}
 use Rattle.uss_vol4.specs.declared.Box4.{Box4}
 use Rattle.uss_vol4.specs.Volume.{Volume4D}
@@ -10,8 +10,6 @@ use Rattle.uss_intent.specs.declared.records.Recorded.{Recorded}
 use Rattle.uss_intent.specs.declared.records.Reference.{Reference}
 use Rattle.uss_intent.specs.declared.records.Ticket.{Ticket}
 use Rattle.uss_intent.specs.declared.records.Landing.{Landing}
-use Rattle.uss_intent.specs.declared.records.State.{State}
-use Rattle.uss_intent.specs.declared.records.State.TheVariants.{Accepted, Activated, Nonconforming, Contingent}
 use Rattle.uss_intent.specs.Same.{same_text}
 
 -- the recorded references with their extents, ascending by flight; the tickets, ascending by identifier; the identifiers that

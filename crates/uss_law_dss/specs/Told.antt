@@ -7,6 +7,8 @@ use Rattle.uss_intent.specs.declared.records.Ticket.{Ticket}
 use Rattle.uss_intent.specs.declared.records.Subscriber.{Subscriber}
 use Rattle.uss_intent.specs.declared.calls.DssAsk.{DssAsk}
 use Rattle.uss_intent.specs.declared.calls.DssAsk.TheVariants.{Put, Remove}
+use Rattle.uss_intent.specs.declared.calls.DssReply.{DssReply}
+use Rattle.uss_intent.specs.declared.calls.DssReply.TheVariants.{Landed, Removed, TicketMade, TicketRemoved}
 use Rattle.uss_law_dss.specs.Lists.{Has}
 use Rattle.uss_law_dss.specs.Service.{Service}
 use Rattle.uss_law_dss.specs.Orderly.{Ascend}
@@ -56,3 +58,14 @@ pub record Tells (IsTold : Ticket → Type 0) (before after : List Ticket) (told
   pub those : (u : Subscriber) → Has told u ↔ ((t : Ticket) × Has before t × IsTold t × (named t ≡ u))
   pub ascending : Ascend ticket_named told
   pub tickets : InPlace (Becomes IsTold) before after
+
+-- the reply tells of no landing and no removal
+abbrev pub TellsNobody : DssReply → Type 0
+TellsNobody (Landed reference told) = ⊥
+TellsNobody (Removed reference told) = ⊥
+TellsNobody _ = Unit {0}
+
+-- no ticket changes: what is new was made, and what is gone was taken out
+pub record Keeps (before after : List Ticket) (reply : DssReply) : Type 0 where
+  pub new : (t : Ticket) → Has after t → Has before t ⊎ (reply ≡ TicketMade t)
+  pub gone : (t : Ticket) → Has before t → Has after t ⊎ (reply ≡ TicketRemoved t)
