@@ -51,9 +51,10 @@ use Rattle.uss_law_world.proofs.Facts.{Facts}
 use Rattle.uss_law_world.proofs.Lookups.{at_any, has_found, same_supplier, other_supplier}
 use Rattle.uss_law_world.proofs.Jobs.{by_opening}
 use Rattle.uss_law_world.proofs.Headline.{refusals_are_settled, open_landings_are_got}
-use Rattle.uss_law_exact.specs.Exact.{Exact, choice_by, turn_by, chosen_by, choice_for, keeping, kept_by, kept_for, IsSettled}
+use Rattle.uss_law_exact.specs.Exact.{Exact, choice_by, turn_by, chosen_by, choice_for, keeping, kept_by, kept_for}
+use Rattle.uss_law_exact.specs.Laws.{IsSettled}
 use Rattle.uss_law_exact.proofs.Fine.{IsFine, IsBrought, IsArrival}
-use Rattle.uss_law_exact.proofs.Turning.{allowed, sound_then, before, supplier_of}
+use Rattle.uss_law_exact.proofs.Turning.{allowed, sound_then, before}
 use Rattle.uss_law_exact.proofs.Gets.{IsGet, IsGets}
 use Rattle.uss_law_exact.proofs.Causes.{Cause, own_call, gets_stepped}
 
@@ -326,9 +327,8 @@ module _ (table : List ℕ) (owners : List Owner) (names : AreSuppliers table ow
 pub settled_arrival : (table : List ℕ) (owners : List Owner) → AreSuppliers table owners → (e : Exact) → Facts table owners e.world → IsFine e.world e.kept → Settled e.world e.kept → (a : Arrival) → IsArrival e.world a
     → (posts : Choice → List Post) → ((c : Choice) (p : Post) → Has (posts c) p → Has (posts_of e.world a c) p) → Settled (after_step e.world a (choice_for e (Some a)) (posts (choice_for e (Some a)))) (kept_for e (Some a))
 settled_arrival table owners names e j f g a i posts sub =
-    let x = supplier_of e.world.suppliers a.supplier i.there in
-    subst (λ y. Settled (after_step e.world a (chosen_by e a y) (posts (chosen_by e a y))) (kept_by e a y)) (sym x.1)
-    (settled_step table owners names e j f g a i x.0 x.1 (posts (choice_by (turn_by e a x.0))) (sub (choice_by (turn_by e a x.0))))
+    subst (λ y. Settled (after_step e.world a (chosen_by e a y) (posts (chosen_by e a y))) (kept_by e a y)) (sym i.there)
+    (settled_step table owners names e j f g a i i.supplier i.there (posts (choice_by (turn_by e a i.supplier))) (sub (choice_by (turn_by e a i.supplier))))
 
 -- a restart
 pub nothing_awaited : {P : Type 0} (q : ℕ) (call : DssCall) → awaited_of q no_values ≡ Some (Goes.Dss call) → P

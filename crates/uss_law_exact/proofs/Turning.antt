@@ -1,5 +1,5 @@
 -- A step of an exact supplier is one that the duties allow, and keeps what holds.
-use Rattle.std.proofs.Common.{ℕ, ℤ, ◌≡◌, ◌==◌, ◌<◌, ◌^◌, Bool, true, false, List, map, inl, inr, refl, ap, sym, subst, ◌∙◌, Option, Some, None, is_some, IfSome, if◌then◌else◌}
+use Rattle.std.proofs.Common.{ℕ, ◌≡◌, ◌==◌, ◌<◌, ◌^◌, Bool, true, false, List, map, inl, inr, refl, ap, sym, subst, ◌∙◌, Option, Some, None, IfSome, if◌then◌else◌}
 use Rattle.uss_intent.specs.Texts.{IsBase}
 use Rattle.uss_intent.specs.declared.calls.DssAsk.{DssAsk}
 use Rattle.uss_intent.specs.declared.calls.DssAsk.TheVariants as Asks
@@ -34,9 +34,8 @@ use Rattle.uss_law_world.specs.Free.{MayTake}
 use Rattle.uss_law_world.proofs.Lookups.{same_supplier, other_supplier}
 use Rattle.uss_law_exact.specs.Exact.{Exact, choice_by, turn_by, chosen_by, choice_for, keeping, kept_by, kept_for}
 use Rattle.uss_law_exact.proofs.Typing.{IsCall, ticket_fits}
-use Rattle.uss_law_exact.proofs.Fine.{IsThere, IsNoted, IsPost, IsSoundWith, IsFine, IsAsker, IsArrival, post_still, addressed}
+use Rattle.uss_law_exact.proofs.Fine.{IsNoted, IsPost, IsSoundWith, IsFine, IsArrival}
 
--- a moment is taken within one range
 -- what a step sends and says is of its types
 
 ticket_is : (t u : ℕ) (a b : Volume4D) (x y : List ℕ) → Asks.TicketPut t a x ≡ Asks.TicketPut u b y → (t ≡ u) × (x ≡ y)
@@ -109,25 +108,25 @@ module _ (e : Exact) (f : IsFine e.world e.kept) (a : Arrival) (i : IsArrival e.
   owner_is : allowed.acts.owner ≡ x.owner
   owner_is = some_same allowed.acts.owner x.owner (sym allowed.acts.owns_book ∙ before.sound.owned)
 
-  sent_typed : (y : Outgoing) → Has t.sends y → IsPost w.suppliers (post_of w.suppliers s y)
+  sent_typed : (y : Outgoing) → Has t.sends y → IsPost (post_of w.suppliers s y)
   sent_typed (Goes.Dss call) h =
       let d = allowed.acts.ticket_calls (Goes.Dss call) h in
-      (i.there, call_typed x.owner after t.values sound_then call.job call.ask (subst (λ (z : Owner). TicketsAreDue z after call.job call.ask) owner_is d))
-  sent_typed (Goes.Peer call) h = (i.there, addressed w.suppliers call, note_typed x.owner after t.values sound_then call (allowed.acts.notes (Goes.Peer call) h))
+      call_typed x.owner after t.values sound_then call.job call.ask (subst (λ (z : Owner). TicketsAreDue z after call.job call.ask) owner_is d)
+  sent_typed (Goes.Peer call) h = note_typed x.owner after t.values sound_then call (allowed.acts.notes (Goes.Peer call) h)
 
-  answer_typed : (k : Option Asker) → IsAsker w.suppliers k → (p : Post) → Has (answer_to k c.said) p → IsPost w.suppliers p
-  answer_typed None q p h = absurd h
-  answer_typed (Some k) q p h = go (reply_by c.said) refl h
+  answer_typed : (k : Option Asker) (p : Post) → Has (answer_to k c.said) p → IsPost p
+  answer_typed None p h = absurd h
+  answer_typed (Some k) p h = go (reply_by c.said) refl h
     where
-      go : (r : Option PeerReply) → reply_by c.said ≡ r → Has (answer_with k r) p → IsPost w.suppliers p
+      go : (r : Option PeerReply) → reply_by c.said ≡ r → Has (answer_with k r) p → IsPost p
       go None e h = absurd h
-      go (Some reply) e (inl g) = subst (IsPost w.suppliers) g (q, said_typed x.owner after t.values sound_then t.said allowed.acts.pair reply e)
+      go (Some reply) e (inl g) = subst IsPost g (said_typed x.owner after t.values sound_then t.said allowed.acts.pair reply e)
       go (Some reply) e (inr n) = absurd n
 
-  new_typed : (p : Post) → Has (posts_of w a c) p → IsPost w.suppliers p
+  new_typed : (p : Post) → Has (posts_of w a c) p → IsPost p
   new_typed p h = elim (has_append (map (post_of w.suppliers s) c.sends) (answer_to a.asker c.said) p h) [
-    | inl q ↦ (let m = has_map (post_of w.suppliers s) c.sends p q in subst (IsPost w.suppliers) m.2 (sent_typed m.0 m.1))
-    | inr q ↦ answer_typed a.asker i.asker p q
+    | inl q ↦ (let m = has_map (post_of w.suppliers s) c.sends p q in subst IsPost m.2 (sent_typed m.0 m.1))
+    | inr q ↦ answer_typed a.asker p q
   ]
 
   stepped_sound : IsSoundWith (stepped c x) t.values
@@ -137,7 +136,7 @@ module _ (e : Exact) (f : IsFine e.world e.kept) (a : Arrival) (i : IsArrival e.
   fine_step posts sub =
       record {
         sound = λ k y g. at k (k == s) refl y g;
-        sent = λ p h. post_still s (stepped c) w.suppliers (λ z. refl) p (elim (has_append w.posts posts p h) [ inl old ↦ f.sent p old | inr new ↦ new_typed p (sub p new) ]);
+        sent = λ p h. elim (has_append w.posts posts p h) [ inl old ↦ f.sent p old | inr new ↦ new_typed p (sub p new) ];
         tickets = f.tickets;
       }
     where
@@ -149,25 +148,17 @@ module _ (e : Exact) (f : IsFine e.world e.kept) (a : Arrival) (i : IsArrival e.
 
 -- whatever comes
 
-pub supplier_of : (xs : List Supplier) (s : ℕ) → IsThere xs s → (x : Supplier) × (supplier_in s xs ≡ Some x)
-supplier_of xs s h = go (supplier_in s xs) refl h
-  where
-    go : (y : Option Supplier) → supplier_in s xs ≡ y → is_some y ≡ true → (x : Supplier) × (supplier_in s xs ≡ Some x)
-    go None e h = cc
-    go (Some x) e h = (x, e)
-
 pub may_take : (e : Exact) → IsFine e.world e.kept → (o : Option Arrival) → ((a : Arrival) → o ≡ Some a → IsArrival e.world a) → MayTake e.world (choice_for e o) o
 may_take e f None i = tt
 may_take e f (Some a) i =
-    let x = supplier_of e.world.suppliers a.supplier (i a refl).there in
-    subst (λ y. MayTake e.world (chosen_by e a y) (Some a)) (sym x.1) (may e f a (i a refl) x.0 x.1)
+    let x = i a refl in
+    subst (λ y. MayTake e.world (chosen_by e a y) (Some a)) (sym x.there) (may e f a x x.supplier x.there)
 
 pub fine_arrival : (e : Exact) → IsFine e.world e.kept → (a : Arrival) → IsArrival e.world a → (posts : Choice → List Post)
     → ((c : Choice) (p : Post) → Has (posts c) p → Has (posts_of e.world a c) p) → IsFine (after_step e.world a (choice_for e (Some a)) (posts (choice_for e (Some a)))) (kept_for e (Some a))
 fine_arrival e f a i posts sub =
-    let x = supplier_of e.world.suppliers a.supplier i.there in
-    subst (λ y. IsFine (after_step e.world a (chosen_by e a y) (posts (chosen_by e a y))) (kept_by e a y)) (sym x.1)
-    (fine_step e f a i x.0 x.1 (posts (choice_by (turn_by e a x.0))) (sub (choice_by (turn_by e a x.0))))
+    subst (λ y. IsFine (after_step e.world a (chosen_by e a y) (posts (chosen_by e a y))) (kept_by e a y)) (sym i.there)
+    (fine_step e f a i i.supplier i.there (posts (choice_by (turn_by e a i.supplier))) (sub (choice_by (turn_by e a i.supplier))))
 
 pub fine_arrives : (e : Exact) → IsFine e.world e.kept → (o : Option Arrival) → ((a : Arrival) → o ≡ Some a → IsArrival e.world a) → IsFine (arrives e.world (choice_for e o) o) (kept_for e o)
 fine_arrives e f None i = f

@@ -31,8 +31,7 @@ use Rattle.uss_law_supplier.specs.Replies.{retires, is_told_now}
 use Rattle.uss_law_world.specs.World.{supplier_in}
 use Rattle.uss_law_world.specs.Worked.{found_again, cancelled_early, second, both_put}
 use Rattle.uss_law_world.specs.Contested.{given_up}
-use Rattle.uss_law_exact.specs.Exact.{exact_start, moves_of, AreTyped}
-use Rattle.uss_law_exact.specs.Worked.{script_of}
+use Rattle.uss_law_exact.specs.Exact.{exact_start, moves_of, script_of, AreTyped}
 
 pub found_again_is_exact : moves_of (exact_start (owner ∷ [])) (script_of found_again) ≡ found_again
 unfolding digits refusal_of last_of jobs_of open_job_of new_refusal has_ended held holding holdings_of clamped journal_length need view_of decision_of trials_of last_trial is_ticket_open bounding_box bounds_of with_progress progress_of without_job attempt_of trial_of ending_of holding_of is_done is_held is_job_of is_ticket_gone is_told is_ticket_needed opening_of owed_of untold owns kept_answer tag_of digits_at_end number_of_digits is_unheard pair_of pairs_in key_of held_as kept_pairs verdict_on any_shares shares retires is_told_now chores sightings_of supplier_in ovn_of lies_in

@@ -1,23 +1,15 @@
 -- The world in which each supplier does exactly what its definition says: there is one run for each script. This project's own.
-use Rattle.std.specs.Prelude.{ℕ, zero, suc, ◌≡◌, Bool, true, ◌==◌, List, [], ◌∷◌, ◌++◌, Option, Some, None, is_some, if◌then◌else◌}
-use Rattle.uss_intent.specs.declared.calls.DssAsk.TheVariants as Asks
-use Rattle.uss_intent.specs.declared.calls.DssReply.{DssReply}
+use Rattle.std.specs.Prelude.{ℕ, zero, suc, ◌==◌, List, [], ◌∷◌, map, Option, Some, None, if◌then◌else◌}
 use Rattle.uss_law_duty.specs.Duties.{Choice}
 use Rattle.uss_event.specs.declared.entries.Owner.{Owner}
-use Rattle.uss_event.specs.declared.calls.DssCall.{DssCall}
-use Rattle.uss_event.specs.declared.events.Answer.TheVariants as Answers
-use Rattle.uss_event.specs.declared.events.Said.{Said}
 use Rattle.uss_event.specs.declared.events.Said.TheVariants as Says
-use Rattle.uss_event.specs.declared.events.Event.TheVariants as Comes
 use Rattle.uss_event.specs.declared.steps.Step.{Step}
 use Rattle.uss_event.specs.declared.steps.Step.TheVariants as Steps
 use Rattle.uss_event.specs.declared.steps.Stopped.{Stopped}
 use Rattle.uss_event.specs.declared.steps.Stopped.TheVariants as Turns
-use Rattle.uss_law_dss.specs.Lists.{Has}
-use Rattle.uss_law_world.specs.World.{Supplier, Saying, World, supplier_in, start}
-use Rattle.uss_law_world.specs.Moves.{Move, Arrival, arrival_of, fault_of, next_message, delivers, happens, run}
+use Rattle.uss_law_world.specs.World.{Supplier, World, supplier_in, start}
+use Rattle.uss_law_world.specs.Moves.{Move, Arrival, step_of, arrival_of, fault_of, next_message, delivers, happens}
 use Rattle.uss_law_world.specs.Moves.{Move as Moves}
-use Rattle.uss_law_world.specs.Free.{AreSuppliers, IsFree}
 use Rattle.uss_law_supplier.specs.Values.{Values, no_values}
 use Rattle.uss_law_supplier.specs.Turns.{Turn}
 use Rattle.uss_law_supplier.specs.Typed.{IsRequest, IsPosition}
@@ -31,7 +23,7 @@ pub record Exact : Type 0 where
 abbrev pub exact_start : List Owner → Exact
 exact_start owners = record { world = start owners; kept = λ s. no_values }
 
--- nothing is chosen where there is no supplier
+-- nothing is chosen where nothing comes to a supplier
 abbrev pub no_choice : Choice
 no_choice = record { entry = None; sends = []; said = Says.Nothing; heard = [] }
 
@@ -66,6 +58,11 @@ kept_for e (Some a) = kept_by e a (supplier_in a.supplier e.world.suppliers)
 abbrev pub kept_without : Exact → Option Arrival → ℕ → Values
 kept_without e None = e.kept
 kept_without e (Some a) = keeping a.supplier no_values e.kept
+
+-- or restarts
+abbrev pub forgetting : Exact → ℕ → Option Supplier → ℕ → Values
+forgetting e s None = e.kept
+forgetting e s (Some x) = keeping s no_values e.kept
 
 -- messages come one after another
 abbrev pub arrival_next : World → Option ℕ → Option Arrival
@@ -112,40 +109,25 @@ kept_after e (Steps.Deliver k) = kept_for e (arrival_of e.world (Turns.Deliver k
 kept_after e (Steps.Lose k) = e.kept
 kept_after e (Steps.Drain n) = drain_kept n e
 kept_after e (Steps.Fault k) = kept_for e (fault_of e.world k)
-kept_after e (Steps.Restart s) = keeping s no_values e.kept
+kept_after e (Steps.Restart s) = forgetting e s (supplier_in s e.world.suppliers)
 kept_after e (Steps.Stop kept sent step) = kept_without e (arrival_of e.world step)
-
--- a step that names a supplier which isn't there changes nothing
-abbrev pub is_there : Exact → ℕ → Bool
-is_there e s = is_some (supplier_in s e.world.suppliers)
-
-abbrev pub names_one : Exact → Stopped → Bool
-names_one e (Turns.Ask s ask) = is_there e s
-names_one e (Turns.Cancel s flight number) = is_there e s
-names_one e (Turns.Position s ask) = is_there e s
-names_one e (Turns.Sweep s skip) = is_there e s
-names_one e (Turns.Deliver k) = true
-
-abbrev pub is_taken : Exact → Step → Bool
-is_taken e (Steps.Ask s ask) = is_there e s
-is_taken e (Steps.Cancel s flight number) = is_there e s
-is_taken e (Steps.Position s ask) = is_there e s
-is_taken e (Steps.Sweep s skip) = is_there e s
-is_taken e (Steps.Stop kept sent step) = names_one e step
-is_taken e _ = true
 
 -- the world after a step of a script, and after a script
 abbrev pub exact_step : Exact → Step → Exact
-exact_step e step = if is_taken e step then record { world = happens e.world (move_by e step); kept = kept_after e step } else e
+exact_step e step = record { world = happens e.world (move_by e step); kept = kept_after e step }
 
 abbrev pub exact_run : Exact → List Step → Exact
 exact_run e [] = e
 exact_run e (x ∷ xs) = exact_run (exact_step e x) xs
 
--- and its moves
+-- and its moves: one for each step
 abbrev pub moves_of : Exact → List Step → List Move
 moves_of e [] = []
-moves_of e (x ∷ xs) = (if is_taken e x then move_by e x ∷ [] else []) ++ moves_of (exact_step e x) xs
+moves_of e (x ∷ xs) = move_by e x ∷ moves_of (exact_step e x) xs
+
+-- the script of a list of moves, without what the suppliers chose
+abbrev pub script_of : List Move → List Step
+script_of moves = map step_of moves
 
 -- what an operator asks in a step is of its types: each number within the range of its type, and each volume one that can be made
 abbrev pub IsStoppedTyped : Stopped → Type 0
@@ -162,31 +144,3 @@ IsTyped _ = Unit {0}
 abbrev pub AreTyped : List Step → Type 0
 AreTyped [] = Unit {0}
 AreTyped (x ∷ xs) = IsTyped x × AreTyped xs
-
--- the run of exact suppliers is a free one, so what holds of free runs holds of it: its world is the one that its moves lead to
-abbrev pub ExactRunsAreFree : Type 0
-ExactRunsAreFree =
-    (table : List ℕ) (owners : List Owner) (steps : List Step) → AreSuppliers table owners → AreTyped steps → IsFree (start owners) (moves_of (exact_start owners) steps)
-
-abbrev pub ExactWorldsAreRun : Type 0
-ExactWorldsAreRun = (owners : List Owner) (steps : List Step) → (exact_run (exact_start owners) steps).world ≡ run (start owners) (moves_of (exact_start owners) steps)
-
--- no supplier says that its flight is recorded by another job's attempt
-abbrev pub IsSettled : Said → Type 0
-IsSettled (Says.Answer (Answers.Unsettled tag)) = ⊥
-IsSettled _ = Unit {0}
-
-abbrev pub NoJobIsUnsettled : Type 0
-NoJobIsUnsettled =
-    (table : List ℕ) (owners : List Owner) (steps : List Step) → AreSuppliers table owners → AreTyped steps → (x : Saying) → Has (exact_run (exact_start owners) steps).world.sayings x → IsSettled x.said
-
--- nor that the discovery service refused it its own flight's reference
-abbrev pub IsUnrefused : Said → Type 0
-IsUnrefused (Says.Answer (Answers.DssRefused number)) = ⊥
-IsUnrefused _ = Unit {0}
-
-abbrev pub NoOwnFlightIsRefused : Type 0
-NoOwnFlightIsRefused =
-    (table : List ℕ) (owners : List Owner) (steps : List Step) (k : ℕ) (a : Arrival) (x : Supplier) (call : DssCall) (reply : DssReply) (flight : ℕ) → AreSuppliers table owners → AreTyped steps
-    → arrival_of (exact_run (exact_start owners) steps).world (Turns.Deliver k) ≡ Some a → supplier_in a.supplier (exact_run (exact_start owners) steps).world.suppliers ≡ Some x
-    → a.event ≡ Comes.Dss call reply → call.ask ≡ Asks.Get flight → IsUnrefused (turn_by (exact_run (exact_start owners) steps) a x).said

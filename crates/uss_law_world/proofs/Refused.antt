@@ -11,15 +11,15 @@ use Rattle.uss_law_world.specs.Free.{MayTake, MayStop, IsAllowed}
 use Rattle.uss_law_world.specs.Refused.{unless_there, unless_sent, unless_call, unless_received, stop_refusal, step_refusal}
 
 -- nobody is there
-absent : (o : Option Supplier) (n : ℕ) → unless_there o ≡ Some n → o ≡ None
+pub absent : (o : Option Supplier) (n : ℕ) → unless_there o ≡ Some n → o ≡ None
 absent None n e = refl
 absent (Some x) n e = cc
 
-unsent : (o : Option Post) (n : ℕ) → unless_sent o ≡ Some n → o ≡ None
+pub unsent : (o : Option Post) (n : ℕ) → unless_sent o ≡ Some n → o ≡ None
 unsent None n e = refl
 unsent (Some p) n e = cc
 
-nobody : (w : World) (a : Arrival) (n : ℕ) → unless_there (supplier_in a.supplier w.suppliers) ≡ Some n → to_one w a ≡ None
+pub nobody : (w : World) (a : Arrival) (n : ℕ) → unless_there (supplier_in a.supplier w.suppliers) ≡ Some n → to_one w a ≡ None
 nobody w a n e = ap (λ o. if_there o a) (absent (supplier_in a.supplier w.suppliers) n e)
 
 received_by_none : (w : World) (k : ℕ) (o : Option Post) (n : ℕ) → unless_received w o ≡ Some n → arrival_by w k o ≡ None
@@ -30,14 +30,14 @@ received_by_none w k (Some (Asked from None call)) n e = refl
 received_by_none w k (Some (Asked from (Some to) call)) n e = nobody w _ n e
 received_by_none w k (Some (Answered to answered call reply)) n e = nobody w _ n e
 
-stops_nobody : (w : World) (step : Stopped) (n : ℕ) → stop_refusal w step ≡ Some n → arrival_of w step ≡ None
+pub stops_nobody : (w : World) (step : Stopped) (n : ℕ) → stop_refusal w step ≡ Some n → arrival_of w step ≡ None
 stops_nobody w (Turns.Ask s ask) n e = nobody w _ n e
 stops_nobody w (Turns.Cancel s flight number) n e = nobody w _ n e
 stops_nobody w (Turns.Position s ask) n e = nobody w _ n e
 stops_nobody w (Turns.Sweep s skip) n e = nobody w _ n e
 stops_nobody w (Turns.Deliver k) n e = received_by_none w k (post_at k w) n e
 
-fails_nobody : (w : World) (o : Option Post) (n : ℕ) → unless_call o ≡ Some n → fault_by w o ≡ None
+pub fails_nobody : (w : World) (o : Option Post) (n : ℕ) → unless_call o ≡ Some n → fault_by w o ≡ None
 fails_nobody w None n e = refl
 fails_nobody w (Some (Called from call)) n e = cc
 fails_nobody w (Some (Replied to answered call reply)) n e = refl
@@ -45,7 +45,7 @@ fails_nobody w (Some (Asked from to call)) n e = cc
 fails_nobody w (Some (Answered to answered call reply)) n e = refl
 
 -- where no supplier has the number, none is changed
-none_changed : (s : ℕ) (f : Supplier → Supplier) (xs : List Supplier) → supplier_in s xs ≡ None → with_supplier s f xs ≡ xs
+pub none_changed : (s : ℕ) (f : Supplier → Supplier) (xs : List Supplier) → supplier_in s xs ≡ None → with_supplier s f xs ≡ xs
 unfolding supplier_in
 none_changed s f [] e = refl
 none_changed s f (x ∷ xs) e = go (x.owner.number == s) (none_changed s f xs) e
