@@ -107,7 +107,7 @@ next_round n tried rounds r b t o l =
 -- an attempt
 
 pub attempts : (n : ℕ) (s : Standing) (o : Opening) (alternative : ℕ) (key : List (List ℕ)) (b : ℕ) → IsOpenJob s.book o → Suffices n 4 (length (trials_of o.job s.book)) (rounds_of o.ask.wish) b
-    → IsWithin n s (attempting s o alternative key) b
+    → IsWithin n s o (attempting s o alternative key) b
 attempts n s o alternative key b u f =
     let e = f.2 in
     let q = f.1 in
@@ -115,25 +115,25 @@ attempts n s o alternative key b u f =
     asks_after n s (pending s o alternative key) o Waits.Put (3 + cost f.0 n) b (still s o (pending s o alternative key) u (pending_leaves_open s o alternative key))
     (f.0, omega (arith, m, q), omega arith) (omega (arith, e))
 
-decides : (n : ℕ) (s : Standing) (o : Opening) (end : Ending) (b : ℕ) → IsOpenJob s.book o → 3 ≤ b → IsWithin n s (deciding s o end) b
+decides : (n : ℕ) (s : Standing) (o : Opening) (end : Ending) (b : ℕ) → IsOpenJob s.book o → 3 ≤ b → IsWithin n s o (deciding s o end) b
 decides n s o end b u l =
     asks_after n s (Enters.Deciding o.job end) o Waits.TicketRemove 2 b (still s o (Enters.Deciding o.job end) u (decision_leaves_open o.job end)) (omega arith) (omega (arith, l))
 
-gives_up : (n : ℕ) (s : Standing) (o : Opening) (end : Ending) (b : ℕ) → IsOpenJob s.book o → 3 ≤ b → IsWithin n s (giving_up s o end) b
+pub gives_up : (n : ℕ) (s : Standing) (o : Opening) (end : Ending) (b : ℕ) → IsOpenJob s.book o → 3 ≤ b → IsWithin n s o (giving_up s o end) b
 gives_up n s o end b u l = go (trials_of o.job s.book)
   where
-    go : (ts : List Trial) → IsWithin n s (giving_up_after s o end ts) b
+    go : (ts : List Trial) → IsWithin n s o (giving_up_after s o end ts) b
     go [] = inl refl
     go (t ∷ ts) = decides n s o end b u l
 
-chooses : (n : ℕ) (s : Standing) (o : Opening) (b : ℕ) → IsOpenJob s.book o → Suffices n 4 (length (trials_of o.job s.book)) (rounds_of o.ask.wish) b → IsWithin n s (choosing s o) b
+chooses : (n : ℕ) (s : Standing) (o : Opening) (b : ℕ) → IsOpenJob s.book o → Suffices n 4 (length (trials_of o.job s.book)) (rounds_of o.ask.wish) b → IsWithin n s o (choosing s o) b
 chooses n s o b u f = at (pairs_in s (round_of o.job s.values)) (choice_of s o (pairs_in s (round_of o.job s.values)))
   where
-    by : (rule : Verdict) (x : Option OperationalIntent) → IsWithin n s (blocked_by s o rule x) b
+    by : (rule : Verdict) (x : Option OperationalIntent) → IsWithin n s o (blocked_by s o rule x) b
     by rule None = inl refl
     by rule (Some p) = let e = f.2 in gives_up n s o (Ends.Conflict p.reference.flight p.reference.manager rule) b u (omega (arith, e))
 
-    at : (pairs : List OperationalIntent) (c : Choice) → IsWithin n s (choosing_by s o pairs c) b
+    at : (pairs : List OperationalIntent) (c : Choice) → IsWithin n s o (choosing_by s o pairs c) b
     at pairs (Chosen alternative) = attempts n s o alternative (key_of pairs) b u f
     at pairs (Blocked place rule) = by rule (slice_get pairs place)
 
@@ -176,7 +176,7 @@ unfolding is_unheard
 unasked s r x h = not_true (is_one_of x.flight r.asked) (both (not (is_one_of x.flight r.asked)) _ (both (not (is_own s.owner x)) _ h).1).0
 
 looks : (n : ℕ) (s : Standing) (o : Opening) (x : Reference) (b : ℕ) → IsOpenJob s.book o → next_unheard s.owner s.values.heard (round_of o.job s.values) ≡ Some x
-    → Suffices n (4 + left (round_of o.job s.values)) (length (trials_of o.job s.book)) (rounds_of o.ask.wish) b → IsWithin n s (looking_at s o (Some x)) b
+    → Suffices n (4 + left (round_of o.job s.values)) (length (trials_of o.job s.book)) (rounds_of o.ask.wish) b → IsWithin n s o (looking_at s o (Some x)) b
 looks n s o x b u e f =
     let old = round_of o.job s.values in
     let call = Goes.Peer (Calls.Details o.job x.flight x.manager x.base) in
@@ -188,7 +188,6 @@ looks n s o x b u e f =
     let l = f.2 in
     inr (
       call,
-      o,
       4 + left round + cost f.0 n,
       refl,
       record {
@@ -208,25 +207,25 @@ Left n s o b = Suffices n (4 + left (round_of o.job s.values)) (length (trials_o
 at_choice : (n : ℕ) (s : Standing) (o : Opening) (b : ℕ) → Left n s o b → Suffices n 4 (length (trials_of o.job s.book)) (rounds_of o.ask.wish) b
 at_choice n s o b f = let l = f.2 in (f.0, f.1, omega (arith, l))
 
-goes_by : (n : ℕ) (s : Standing) (o : Opening) (reply : DssReply) (b : ℕ) → IsOpenJob s.book o → Left n s o b → IsWithin n s (carry_out s o reply (next_or_choice (is_left s.owner s.values.heard (round_of o.job s.values)))) b
+goes_by : (n : ℕ) (s : Standing) (o : Opening) (reply : DssReply) (b : ℕ) → IsOpenJob s.book o → Left n s o b → IsWithin n s o (carry_out s o reply (next_or_choice (is_left s.owner s.values.heard (round_of o.job s.values)))) b
 goes_by n s o reply b u f = go (next_unheard s.owner s.values.heard (round_of o.job s.values)) refl
   where
-    go : (x : Option Reference) → next_unheard s.owner s.values.heard (round_of o.job s.values) ≡ x → IsWithin n s (carry_out s o reply (next_or_choice (is_some x))) b
+    go : (x : Option Reference) → next_unheard s.owner s.values.heard (round_of o.job s.values) ≡ x → IsWithin n s o (carry_out s o reply (next_or_choice (is_some x))) b
     go None e = chooses n s o b u (at_choice n s o b f)
-    go (Some x) e = subst (λ y. IsWithin n s (looking_at s o y) b) (sym e) (looks n s o x b u e f)
+    go (Some x) e = subst (λ y. IsWithin n s o (looking_at s o y) b) (sym e) (looks n s o x b u e f)
 
 goes_by_peer : (n : ℕ) (s : Standing) (o : Opening) (call : PeerCall) (reply : PeerReply) (b : ℕ) → IsOpenJob s.book o → Left n s o b
-    → IsWithin n s (carry_out_peer s o call reply (next_or_choice (is_left s.owner s.values.heard (round_of o.job s.values)))) b
+    → IsWithin n s o (carry_out_peer s o call reply (next_or_choice (is_left s.owner s.values.heard (round_of o.job s.values)))) b
 goes_by_peer n s o call reply b u f = go (next_unheard s.owner s.values.heard (round_of o.job s.values)) refl
   where
-    go : (x : Option Reference) → next_unheard s.owner s.values.heard (round_of o.job s.values) ≡ x → IsWithin n s (carry_out_peer s o call reply (next_or_choice (is_some x))) b
+    go : (x : Option Reference) → next_unheard s.owner s.values.heard (round_of o.job s.values) ≡ x → IsWithin n s o (carry_out_peer s o call reply (next_or_choice (is_some x))) b
     go None e = chooses n s o b u (at_choice n s o b f)
-    go (Some x) e = subst (λ y. IsWithin n s (looking_at s o y) b) (sym e) (looks n s o x b u e f)
+    go (Some x) e = subst (λ y. IsWithin n s o (looking_at s o y) b) (sym e) (looks n s o x b u e f)
 
 -- the reply of another supplier
 
 pub by_peer : (n : ℕ) (s : Standing) (o : Opening) (job flight : ℕ) (manager base : List ℕ) (reply : PeerReply) (b : ℕ) → IsOpenJob s.book o → peer_fits (Calls.Details job flight manager base) reply ≡ true → Left n s o b
-    → IsWithin n s (carry_out_peer s o (Calls.Details job flight manager base) reply (on_heard (view_of s o) Waits.Details (heard_of_peer s o reply))) b
+    → IsWithin n s o (carry_out_peer s o (Calls.Details job flight manager base) reply (on_heard (view_of s o) Waits.Details (heard_of_peer s o reply))) b
 by_peer n s o job flight manager base (Peers.Served pair) b u fit f = goes_by_peer n s o (Calls.Details job flight manager base) (Peers.Served pair) b u f
 by_peer n s o job flight manager base Peers.Gone b u fit f = goes_by_peer n s o (Calls.Details job flight manager base) Peers.Gone b u f
 by_peer n s o job flight manager base Peers.Noted b u fit f = cc
@@ -237,10 +236,10 @@ by_peer n s o job flight manager base (Peers.Status status) b u fit f = inl refl
 abbrev Acts : ℕ → Standing → Opening → DssAsk → DssReply → Awaited → ℕ → Type 0
 Acts n s o ask reply kind b =
     IsOpenJob s.book o → fits ask reply ≡ true → ((rs : List Reference) → reply ≡ Replies.Found rs → left (round_of o.job s.values) ≤ n) → (unasked : ℕ)
-    → Allows n unasked (length (trials_of o.job s.book)) (rounds_of o.ask.wish) kind b → IsWithin n s (carry_out s o reply (on_heard (view_of s o) kind (heard_of_dss s o reply))) b
+    → Allows n unasked (length (trials_of o.job s.book)) (rounds_of o.ask.wish) kind b → IsWithin n s o (carry_out s o reply (on_heard (view_of s o) kind (heard_of_dss s o reply))) b
 
 opens : (n : ℕ) (s : Standing) (o : Opening) (unasked b : ℕ) → IsOpenJob s.book o → Allows n unasked (length (trials_of o.job s.book)) (rounds_of o.ask.wish) Waits.TicketPut b
-    → IsWithin n s (entering s (Enters.TicketOpen o.job) (λ after. asking after o Waits.Query)) b
+    → IsWithin n s o (entering s (Enters.TicketOpen o.job) (λ after. asking after o Waits.Query)) b
 opens n s o unasked b u a =
     let c = first_round n (length (trials_of o.job s.book)) (rounds_of o.ask.wish) b a.0 a.1 a.2 in
     asks_after n s (Enters.TicketOpen o.job) o Waits.Query c.0 b (still s o (Enters.TicketOpen o.job) u (ticket_leaves_open o.job))
@@ -259,16 +258,16 @@ by_query n s o area (Replies.Found rs) b u fit few k a = at_key (keeps_key o.ask
     more : Left n s o b
     more = let l = few rs refl in let m = a.2 in (a.0, a.1, omega (arith, l, m))
 
-    at_crowd : (x : Bool) → IsWithin n s (carry_out s o (Replies.Found rs) (cond x Duties.Crowded (next_or_choice (is_left s.owner s.values.heard (round_of o.job s.values))))) b
+    at_crowd : (x : Bool) → IsWithin n s o (carry_out s o (Replies.Found rs) (cond x Duties.Crowded (next_or_choice (is_left s.owner s.values.heard (round_of o.job s.values))))) b
     at_crowd true = inl refl
     at_crowd false = goes_by n s o (Replies.Found rs) b u more
 
-    at_key : (x : Bool) → IsWithin n s (carry_out s o (Replies.Found rs) (on_found x (length (others (flight_of s.owner o) rs)) (is_left s.owner s.values.heard (round_of o.job s.values)))) b
+    at_key : (x : Bool) → IsWithin n s o (carry_out s o (Replies.Found rs) (on_found x (length (others (flight_of s.owner o) rs)) (is_left s.owner s.values.heard (round_of o.job s.values)))) b
     at_key true = at_crowd (nat_lt 1024 (length (others (flight_of s.owner o) rs)))
     at_key false = attempts n s o 0 [] b u (at_choice n s o b more)
 by_query n s o area reply b u fit few k a = let f = fit in cc
 
-holds : (n : ℕ) (s : Standing) (o : Opening) (owed : List Subscriber) (r : Reference) (tag : Option ℕ) (ovn : Option (List ℕ)) (b : ℕ) → IsWithin n s (holding_as s o owed r tag ovn) b
+holds : (n : ℕ) (s : Standing) (o : Opening) (owed : List Subscriber) (r : Reference) (tag : Option ℕ) (ovn : Option (List ℕ)) (b : ℕ) → IsWithin n s o (holding_as s o owed r tag ovn) b
 holds n s o owed r (Some tag) (Some ovn) b = inl refl
 holds n s o owed r None ovn b = inl refl
 holds n s o owed r (Some tag) None b = inl refl
@@ -284,17 +283,17 @@ lacks n s o flight ovn extents key state base ticket rs b u fit few k a = at_key
     reply : DssReply
     reply = Replies.Refused (Refuses.MissingKey rs)
 
-    at_round : (x : Bool) → nat_lt tried (rounds_of o.ask.wish) ≡ x → IsWithin n s (carry_out s o reply (cond x (Duties.Call Waits.Query) Duties.DecideStale)) b
+    at_round : (x : Bool) → nat_lt tried (rounds_of o.ask.wish) ≡ x → IsWithin n s o (carry_out s o reply (cond x (Duties.Call Waits.Query) Duties.DecideStale)) b
     at_round true e =
         let c = next_round n tried (rounds_of o.ask.wish) a.0 b (less_is tried (rounds_of o.ask.wish) e) a.1 a.2 in
         asks n s o Waits.Query c.0 b u c.1 c.2
     at_round false e = let l = a.2 in decides n s o (Ends.Stale (map (λ (x : Reference). x.flight) rs)) b u (omega (arith, l))
 
-    at_key : (x : Bool) → IsWithin n s (carry_out s o reply (cond x (cond (nat_lt tried (rounds_of o.ask.wish)) (Duties.Call Waits.Query) Duties.DecideStale) (Duties.DssRefused 209))) b
+    at_key : (x : Bool) → IsWithin n s o (carry_out s o reply (cond x (cond (nat_lt tried (rounds_of o.ask.wish)) (Duties.Call Waits.Query) Duties.DecideStale) (Duties.DssRefused 209))) b
     at_key true = at_round (nat_lt tried (rounds_of o.ask.wish)) refl
     at_key false = inl refl
 
-gets : (n : ℕ) (s : Standing) (o : Opening) (b : ℕ) → IsOpenJob s.book o → 2 ≤ b → IsWithin n s (asking s o Waits.Get) b
+gets : (n : ℕ) (s : Standing) (o : Opening) (b : ℕ) → IsOpenJob s.book o → 2 ≤ b → IsWithin n s o (asking s o Waits.Get) b
 gets n s o b u l = asks n s o Waits.Get 1 b u (omega arith) (omega (arith, l))
 
 by_put : (n : ℕ) (s : Standing) (o : Opening) (flight : ℕ) (ovn : Option (List ℕ)) (extents : List Volume4D) (key : List (List ℕ)) (state : State) (base : List ℕ) (ticket : ℕ) (reply : DssReply) (b : ℕ)
@@ -309,16 +308,16 @@ by_put n s o flight ovn extents key state base ticket reply b u fit few k a = le
 by_get : (n : ℕ) (s : Standing) (o : Opening) (flight : ℕ) (reply : DssReply) (b : ℕ) → Acts n s o (Asks.Get flight) reply Waits.Get b
 by_get n s o flight (Replies.Got r) b u fit few k a = go (owns_tag o.job s.book (shown_tag r))
   where
-    go : (x : Bool) → IsWithin n s (carry_out s o (Replies.Got r) (on_got x)) b
+    go : (x : Bool) → IsWithin n s o (carry_out s o (Replies.Got r) (on_got x)) b
     go true = holds n s o [] r (shown_tag r) r.ovn b
     go false = inl refl
 by_get n s o flight (Replies.Refused refusal) b u fit few k a = inl refl
 by_get n s o flight reply b u fit few k a = let f = fit in cc
 
-closes : (n : ℕ) (s : Standing) (o : Opening) (owed : List Subscriber) (wish : Wish) (b : ℕ) → IsWithin n s (closing s o owed wish) b
+closes : (n : ℕ) (s : Standing) (o : Opening) (owed : List Subscriber) (wish : Wish) (b : ℕ) → IsWithin n s o (closing s o owed wish) b
 closes n s o owed (Put to priority rounds proposals) b = go (decision_of o.job s.book)
   where
-    go : (x : Option Closing) → IsWithin n s (ending_as s o x) b
+    go : (x : Option Closing) → IsWithin n s o (ending_as s o x) b
     go None = inl refl
     go (Some d) = inl refl
 closes n s o owed End b = inl refl
@@ -341,7 +340,7 @@ the_kind n s o ask reply kind other b e a = subst (λ x. Acts n s o ask reply x 
 
 pub by_dss : (n : ℕ) (s : Standing) (o : Opening) (ask : DssAsk) (reply : DssReply) (kind : Awaited) (b : ℕ) → kind_of_ask ask ≡ Some kind → IsOpenJob s.book o → fits ask reply ≡ true
     → ((rs : List Reference) → reply ≡ Replies.Found rs → left (round_of o.job s.values) ≤ n) → (unasked : ℕ) → Allows n unasked (length (trials_of o.job s.book)) (rounds_of o.ask.wish) kind b
-    → IsWithin n s (carry_out s o reply (on_heard (view_of s o) kind (heard_of_dss s o reply))) b
+    → IsWithin n s o (carry_out s o reply (on_heard (view_of s o) kind (heard_of_dss s o reply))) b
 by_dss n s o (Asks.Query area) reply kind b e = the_kind n s o (Asks.Query area) reply kind Waits.Query b e (by_query n s o area reply b)
 by_dss n s o (Asks.Get flight) reply kind b e = the_kind n s o (Asks.Get flight) reply kind Waits.Get b e (by_get n s o flight reply b)
 by_dss n s o (Asks.Put flight ovn extents key state base ticket) reply kind b e =

@@ -57,7 +57,7 @@ firm_rounds End e f = cc
 none_of : (n : ℕ) → nat_lt 0 n ≡ false → n ≡ 0
 none_of n h = let a = not_less 0 n h in omega (arith, a)
 
-goes_by_book : (n : ℕ) (s : Standing) (o : Opening) → IsOpenJob s.book o → IsFirm o.ask.wish → IsWithin n s (going_on s o) (5 + cost (rounds_of o.ask.wish) n)
+goes_by_book : (n : ℕ) (s : Standing) (o : Opening) → IsOpenJob s.book o → IsFirm o.ask.wish → IsWithin n s o (going_on s o) (5 + cost (rounds_of o.ask.wish) n)
 unfolding view_of
 goes_by_book n s o u firm = at_end (is_end o.ask.wish) refl
   where
@@ -70,7 +70,7 @@ goes_by_book n s o u firm = at_end (is_end o.ask.wish) refl
     b : ℕ
     b = 5 + cost (rounds_of o.ask.wish) n
 
-    at_key : (x : Bool) → tried ≡ 0 → 1 ≤ rounds → IsWithin n s (carry_on s o (with_ticket x)) b
+    at_key : (x : Bool) → tried ≡ 0 → 1 ≤ rounds → IsWithin n s o (carry_on s o (with_ticket x)) b
     at_key true t r =
         let c = first_round n tried rounds b t r (omega arith) in
         asks n s o Waits.Query c.0 b u c.1 c.2
@@ -80,21 +80,21 @@ goes_by_book n s o u firm = at_end (is_end o.ask.wish) refl
         let k = c.2 in
         attempts n s o 0 [] b u (c.1.0, c.1.1, omega (arith, l, k))
 
-    at_ticket : (x : Bool) → tried ≡ 0 → 1 ≤ rounds → IsWithin n s (carry_on s o (cond x (with_ticket (keeps_key o.ask.wish)) (Duties.Call Waits.TicketPut))) b
+    at_ticket : (x : Bool) → tried ≡ 0 → 1 ≤ rounds → IsWithin n s o (carry_on s o (cond x (with_ticket (keeps_key o.ask.wish)) (Duties.Call Waits.TicketPut))) b
     at_ticket true t r = at_key (keeps_key o.ask.wish) t r
     at_ticket false t r = asks n s o Waits.TicketPut (3 + cost rounds n) b u (t, r, omega arith) (omega arith)
 
-    at_tried : (x : Bool) → nat_lt 0 tried ≡ x → 1 ≤ rounds → IsWithin n s (carry_on s o (cond x (Duties.Call Waits.Put) (cond (is_ticket_open o.job s.book) (with_ticket (keeps_key o.ask.wish)) (Duties.Call Waits.TicketPut)))) b
+    at_tried : (x : Bool) → nat_lt 0 tried ≡ x → 1 ≤ rounds → IsWithin n s o (carry_on s o (cond x (Duties.Call Waits.Put) (cond (is_ticket_open o.job s.book) (with_ticket (keeps_key o.ask.wish)) (Duties.Call Waits.TicketPut)))) b
     at_tried true e r = asks n s o Waits.Put (3 + cost rounds n) b u (rounds, omega arith, omega arith) (omega arith)
     at_tried false e r = at_ticket (is_ticket_open o.job s.book) (none_of tried e) r
 
     at_decided : (x : Bool) → 1 ≤ rounds
-        → IsWithin n s (carry_on s o (cond x (Duties.Call Waits.TicketRemove) (cond (nat_lt 0 tried) (Duties.Call Waits.Put) (cond (is_ticket_open o.job s.book) (with_ticket (keeps_key o.ask.wish)) (Duties.Call Waits.TicketPut))))) b
+        → IsWithin n s o (carry_on s o (cond x (Duties.Call Waits.TicketRemove) (cond (nat_lt 0 tried) (Duties.Call Waits.Put) (cond (is_ticket_open o.job s.book) (with_ticket (keeps_key o.ask.wish)) (Duties.Call Waits.TicketPut))))) b
     at_decided true r = asks n s o Waits.TicketRemove 2 b u (omega arith) (omega arith)
     at_decided false r = at_tried (nat_lt 0 tried) refl r
 
     at_end : (x : Bool) → is_end o.ask.wish ≡ x
-        → IsWithin n s (carry_on s o (cond x (Duties.Call Waits.Remove) (cond (is_some (decision_of o.job s.book)) (Duties.Call Waits.TicketRemove) (cond (nat_lt 0 tried) (Duties.Call Waits.Put) (cond (is_ticket_open o.job s.book) (with_ticket (keeps_key o.ask.wish)) (Duties.Call Waits.TicketPut)))))) b
+        → IsWithin n s o (carry_on s o (cond x (Duties.Call Waits.Remove) (cond (is_some (decision_of o.job s.book)) (Duties.Call Waits.TicketRemove) (cond (nat_lt 0 tried) (Duties.Call Waits.Put) (cond (is_ticket_open o.job s.book) (with_ticket (keeps_key o.ask.wish)) (Duties.Call Waits.TicketPut)))))) b
     at_end true e = asks n s o Waits.Remove 1 b u (omega arith) (omega arith)
     at_end false e = at_decided (is_some (decision_of o.job s.book)) (firm_rounds o.ask.wish e firm)
 
@@ -132,8 +132,8 @@ enough n s o Waits.Get k f l p = (1, omega arith, omega arith)
 enough n s o Waits.TicketRemove k f l p = (2, omega arith, omega arith)
 enough n s o Waits.Remove k f l p = (1, omega arith, omega arith)
 
-resumes : (n : ℕ) (s : Standing) (o : Opening) → IsOpenJob s.book o → Known s.book → IsFirm o.ask.wish → IsFit s.owner s.book s.values → length (round_of o.job s.values).found ≤ n
-    → IsWithin n s (resuming s o) (5 + cost (rounds_of o.ask.wish) n)
+pub resumes : (n : ℕ) (s : Standing) (o : Opening) → IsOpenJob s.book o → Known s.book → IsFirm o.ask.wish → IsFit s.owner s.book s.values → length (round_of o.job s.values).found ≤ n
+    → IsWithin n s o (resuming s o) (5 + cost (rounds_of o.ask.wish) n)
 resumes n s o u k firm fit few = go (awaited_of o.job s.values) refl
   where
     waits : (call : Outgoing) → awaited_of o.job s.values ≡ Some call → IsAwaited s.owner s.book s.values o.job call → (c : ℕ) × IsWaiting n s o call c × (c < 5 + cost (rounds_of o.ask.wish) n)
@@ -146,9 +146,9 @@ resumes n s o u k firm fit few = go (awaited_of o.job s.values) refl
         let c = enough n s o Waits.Details k firm few (subst (λ (x : Opening). IsPhase s.book x Waits.Details) same w.phase) in
         (c.0, record { unfinished = u; waits = e; its_job = ap job_of_call w.is; kind = Waits.Details; is = ap kind_of_call w.is; allows = c.1 }, c.2)
 
-    go : (x : Option Outgoing) → awaited_of o.job s.values ≡ x → IsWithin n s (resuming_by s o x) (5 + cost (rounds_of o.ask.wish) n)
+    go : (x : Option Outgoing) → awaited_of o.job s.values ≡ x → IsWithin n s o (resuming_by s o x) (5 + cost (rounds_of o.ask.wish) n)
     go None e = goes_by_book n s o u firm
-    go (Some call) e = let w = waits call e (fit o.job call e) in inr (call, o, w.0, refl, w.1, w.2)
+    go (Some call) e = let w = waits call e (fit o.job call e) in inr (call, w.0, refl, w.1, w.2)
 
 -- a new job
 
@@ -182,127 +182,22 @@ new_duty s at ask orderly known =
     first_duty (entered s e) o (decision_stays o.job s.book e refl ∙ new_undecided s.book o.job orderly known refl) (same_trials o.job s.book at ask ∙ new_untried s.book o.job orderly refl)
     (same_ticket o.job s.book at ask ∙ new_unticketed s.book o.job orderly known refl)
 
-opens : (n : ℕ) (s : Standing) (at : ℤ) (ask : FlightAsk) → IsOrderly s.book → Known s.book → plan_refusal ask.wish ≡ None
-    → IsWithin n s (entering s (opening_entry s.book at ask) (λ after. going_on after (opening_for s at ask))) (5 + cost (rounds_of ask.wish) n)
+pub opens : (n : ℕ) (s : Standing) (at : ℤ) (ask : FlightAsk) → IsOrderly s.book → Known s.book → plan_refusal ask.wish ≡ None
+    → IsWithin n s (opening_for s at ask) (entering s (opening_entry s.book at ask) (λ after. going_on after (opening_for s at ask))) (5 + cost (rounds_of ask.wish) n)
 opens n s at ask orderly known plan =
     let o = opening_for s at ask in
     let e = opening_entry s.book at ask in
     let u = new_unfinished s at ask orderly in
     let t : length (trials_of o.job (s.book ++ e ∷ [])) ≡ 0 = ap length (same_trials o.job s.book at ask ∙ new_untried s.book o.job orderly refl) in
-    subst (λ (t : Turn). IsWithin n s (with_entry e t) (5 + cost (rounds_of ask.wish) n)) (sym (new_duty s at ask orderly known)) (go (is_end ask.wish) refl u t)
+    subst (λ (t : Turn). IsWithin n s o (with_entry e t) (5 + cost (rounds_of ask.wish) n)) (sym (new_duty s at ask orderly known)) (go (is_end ask.wish) refl u t)
   where
     some : (wish : Wish) → is_end wish ≡ false → plan_refusal wish ≡ None → 1 ≤ rounds_of wish
     some (Put to priority rounds proposals) h p = (are_plans to priority rounds proposals p).some_rounds
     some End h p = cc
 
     go : (x : Bool) → is_end ask.wish ≡ x → IsOpenJob (s.book ++ opening_entry s.book at ask ∷ []) (opening_for s at ask) → length (trials_of (opening_for s at ask).job (s.book ++ opening_entry s.book at ask ∷ [])) ≡ 0
-        → IsWithin n s (entering s (opening_entry s.book at ask) (λ after. asking after (opening_for s at ask) (first_kind x))) (5 + cost (rounds_of ask.wish) n)
+        → IsWithin n s (opening_for s at ask) (entering s (opening_entry s.book at ask) (λ after. asking after (opening_for s at ask) (first_kind x))) (5 + cost (rounds_of ask.wish) n)
     go true e u t = asks_after n s (opening_entry s.book at ask) (opening_for s at ask) Waits.Remove 1 (5 + cost (rounds_of ask.wish) n) u (omega arith) (omega arith)
     go false e u t =
         asks_after n s (opening_entry s.book at ask) (opening_for s at ask) Waits.TicketPut (3 + cost (rounds_of ask.wish) n) (5 + cost (rounds_of ask.wish) n) u
         (t, some ask.wish e plan, omega arith) (omega arith)
-
--- a repeated request has the rounds of the one before
-
-same_rounds : (old new : Wish) → differing old new ≡ None → rounds_of old ≡ rounds_of new
-same_rounds (Put to priority rounds proposals) (Put to' priority' rounds' proposals') h = at_state (same_state to to') h
-  where
-    at_rounds : (x : Bool) → (rounds == rounds') ≡ x → cond (not x) (Some Fields.Rounds) (cond (not (pointwise same_proposal proposals proposals')) (Some Fields.Proposals) None) ≡ None → rounds ≡ rounds'
-    at_rounds true e h = same_number rounds rounds' e
-    at_rounds false e h = cc
-
-    at_priority : (x : Bool) → cond (not x) (Some Fields.Priority) (cond (not (rounds == rounds')) (Some Fields.Rounds) (cond (not (pointwise same_proposal proposals proposals')) (Some Fields.Proposals) None)) ≡ None → rounds ≡ rounds'
-    at_priority true h = at_rounds (rounds == rounds') refl h
-    at_priority false h = cc
-
-    at_state : (x : Bool)
-        → cond (not x) (Some Fields.To) (cond (not (priority == priority')) (Some Fields.Priority) (cond (not (rounds == rounds')) (Some Fields.Rounds) (cond (not (pointwise same_proposal proposals proposals')) (Some Fields.Proposals) None))) ≡ None
-        → rounds ≡ rounds'
-    at_state true h = at_priority (priority == priority') h
-    at_state false h = cc
-same_rounds End End h = refl
-same_rounds (Put to priority rounds proposals) End h = cc
-same_rounds End (Put to priority rounds proposals) h = cc
-
--- the request
-
-anew : (n : ℕ) (s : Standing) (at : ℤ) (ask : FlightAsk) → IsOrderly s.book → Known s.book → plan_refusal ask.wish ≡ None → IsWithin n s (asked_anew s at ask) (5 + cost (rounds_of ask.wish) n)
-anew n s at ask orderly known plan = go (new_refusal s.book at ask)
-  where
-    go : (x : Option AskRefusal) → IsWithin n s (new_by s at ask x) (5 + cost (rounds_of ask.wish) n)
-    go None = opens n s at ask orderly known plan
-    go (Some refusal) = inl refl
-
-again : (n : ℕ) (s : Standing) (ask : FlightAsk) (last : Opening) → IsSound s.owner s.book s.values → found_before s.values (open_job_of ask.flight s.book) ≤ n → last_of ask.flight s.book ≡ Some last
-    → IsWithin n s (repeated s last ask) (5 + cost (rounds_of ask.wish) n)
-again n s ask last sound few e = at_field (differing last.ask.wish ask.wish) refl
-  where
-    orderly : IsOrderly s.book
-    orderly = legal_is_orderly s.book sound.legal
-
-    known : Known s.book
-    known = legal_known s.book sound.legal
-
-    at_closed : (x : Bool) → is_closed last.job s.book ≡ x → rounds_of last.ask.wish ≡ rounds_of ask.wish → IsWithin n s (asked_for s last x) (5 + cost (rounds_of ask.wish) n)
-    at_closed true q r = inl refl
-    at_closed false q r =
-        let l = last_is ask.flight s.book last e in
-        let u : IsOpenJob s.book last = record { opened = opening_is_found s.book last orderly l.0; unclosed = q } in
-        let its : open_job_of ask.flight s.book ≡ Some last = ap (λ f. open_job_of f s.book) (sym l.1) ∙ open_job_is_found s.book last orderly l.0 q in
-        subst (λ k. IsWithin n s (resuming s last) (5 + cost k n)) r
-        (resumes n s last u known (known.firm last l.0) sound.fit (subst (λ (x : Option Opening). found_before s.values x ≤ n) its few))
-
-    at_field : (x : Option AskField) → differing last.ask.wish ask.wish ≡ x → IsWithin n s (repeated_by s last x) (5 + cost (rounds_of ask.wish) n)
-    at_field (Some field) q = inl refl
-    at_field None q = at_closed (is_closed last.job s.book) refl (same_rounds last.ask.wish ask.wish q)
-
-first_within : (n : ℕ) (s : Standing) (at : ℤ) (ask : FlightAsk) → IsSound s.owner s.book s.values → found_before s.values (open_job_of ask.flight s.book) ≤ n → IsWithin n s (asked s at ask) (5 + cost (rounds_of ask.wish) n)
-first_within n s at ask sound few = at_plan (plan_refusal ask.wish) refl
-  where
-    new : plan_refusal ask.wish ≡ None → IsWithin n s (asked_anew s at ask) (5 + cost (rounds_of ask.wish) n)
-    new p = anew n s at ask (legal_is_orderly s.book sound.legal) (legal_known s.book sound.legal) p
-
-    at_same : (last : Opening) (x : Bool) → last_of ask.flight s.book ≡ Some last → plan_refusal ask.wish ≡ None → IsWithin n s (cond x (repeated s last ask) (asked_anew s at ask)) (5 + cost (rounds_of ask.wish) n)
-    at_same last true e p = again n s ask last sound few e
-    at_same last false e p = new p
-
-    at_less : (last : Opening) (x : Bool) → last_of ask.flight s.book ≡ Some last → plan_refusal ask.wish ≡ None
-        → IsWithin n s (cond x (refusing s (Refuses.OldNumber last.ask.number)) (cond (ask.number == last.ask.number) (repeated s last ask) (asked_anew s at ask))) (5 + cost (rounds_of ask.wish) n)
-    at_less last true e p = inl refl
-    at_less last false e p = at_same last (ask.number == last.ask.number) e p
-
-    at_last : (x : Option Opening) → last_of ask.flight s.book ≡ x → plan_refusal ask.wish ≡ None → IsWithin n s (asked_after s at ask x) (5 + cost (rounds_of ask.wish) n)
-    at_last None e p = new p
-    at_last (Some last) e p = at_less last (nat_lt ask.number last.ask.number) e p
-
-    at_plan : (x : Option ℕ) → plan_refusal ask.wish ≡ x → IsWithin n s (asked_with s at ask x) (5 + cost (rounds_of ask.wish) n)
-    at_plan (Some number) e = inl refl
-    at_plan None e = at_last (last_of ask.flight s.book) refl e
-
--- the exchange
-
-cost_is : (r n : ℕ) → cost r n ≡ r * (2 + n)
-cost_is zero n = omega arith
-cost_is (suc r) n = let e = cost_is r n in grind (arith, e)
-
-most : (a b : ℕ) → (a ≤ max a b) × (b ≤ max a b)
-most a b = (omega arith, omega arith)
-
-within_it : (n : ℕ) (s : Standing) (moment : ℤ) (ask : FlightAsk) (xs : List Exchanged) → IsSound s.owner s.book s.values → found_before s.values (open_job_of ask.flight s.book) ≤ n → most_found xs ≤ n → IsBegun s moment (Comes.Ask ask) xs
-    → AllFit xs → suc (calls_made s moment (Comes.Ask ask) xs) ≤ 5 + cost (rounds_of ask.wish) n
-within_it n s moment ask [] sound few found begun fit =
-    let l = ends_within n s (turn_of s moment (Comes.Ask ask)) (5 + cost (rounds_of ask.wish) n) (omega arith) (first_within n s (clamped moment) ask sound few) in
-    omega (arith, l)
-within_it n s moment ask (x ∷ xs) sound few found begun fit =
-    let t = turn_of s moment (Comes.Ask ask) in
-    let l = goes_within n moment s t x xs (5 + cost (rounds_of ask.wish) n) (λ p c w. bounded n moment (stands_then s t) p x xs c w begun.2 fit found) (first_within n s (clamped moment) ask sound few) begun.1 in
-    omega (arith, l)
-
-pub calls_are_bounded : CallsAreBounded
-calls_are_bounded s moment ask xs sound begun fit =
-    let f = found_before s.values (open_job_of ask.flight s.book) in
-    let n = max f (most_found xs) in
-    let m = most f (most_found xs) in
-    let l = within_it n s moment ask xs sound m.0 m.1 begun fit in
-    let c = cost_is (rounds_of ask.wish) n in
-    subst (λ k. calls_made s moment (Comes.Ask ask) xs ≤ 4 + k) c (omega (arith, l))

@@ -65,23 +65,23 @@ round_waits s o (Replies.Found rs) = round_awaited o.job (round_with (others (fl
 round_waits s o _ = refl
 
 acts_on_dss : (n : ℕ) (s : Standing) (o : Opening) (call : DssCall) (reply : DssReply) (b : ℕ) → IsWaiting n s o (Goes.Dss call) b → fits call.ask reply ≡ true → length (found_by reply) ≤ n
-    → IsWithin n s (acting_on_dss (with_values s (round_by_dss s o reply)) o reply) b
+    → IsWithin n s o (acting_on_dss (with_values s (round_by_dss s o reply)) o reply) b
 unfolding view_of
 acts_on_dss n s o call reply b w fit few =
     let v = round_by_dss s o reply in
     let t = with_values s v in
     let kind : option_and_then kind_of (awaited_of o.job v) ≡ Some w.kind = ap (option_and_then kind_of) (round_waits s o reply ∙ w.waits) ∙ w.is in
-    subst (λ (x : Option Awaited). IsWithin n t (carry_out t o reply (when_awaited (view_of t o) (heard_of_dss t o reply) x)) b) (sym kind)
+    subst (λ (x : Option Awaited). IsWithin n t o (carry_out t o reply (when_awaited (view_of t o) (heard_of_dss t o reply) x)) b) (sym kind)
     (by_dss n t o call.ask reply w.kind b w.is w.unfinished fit (λ rs e. few_left n s o reply rs e few) (left (round_of o.job s.values)) w.allows)
 
 replied_within : (n : ℕ) (s : Standing) (o : Opening) (call : DssCall) (reply : DssReply) (b : ℕ) → IsWaiting n s o (Goes.Dss call) b → fits call.ask reply ≡ true → length (found_by reply) ≤ n
-    → IsWithin n s (replied_to s call reply (opening_of call.job s.book)) b
+    → IsWithin n s o (replied_to s call reply (opening_of call.job s.book)) b
 replied_within n s o call reply b w fit few =
     let opened : opening_of call.job s.book ≡ Some o = ap (λ j. opening_of j s.book) w.its_job ∙ w.unfinished.opened in
     let waits : is_it (Goes.Dss call) (awaited_of o.job s.values) ≡ true = ap (is_it (Goes.Dss call)) w.waits ∙ same_dss call in
-    subst (λ (x : Option Opening). IsWithin n s (replied_to s call reply x) b) (sym opened)
-    (subst (λ (x : Bool). IsWithin n s (of_job_by_dss s o call reply x) b) (sym w.unfinished.unclosed)
-    (subst (λ (x : Bool). IsWithin n s (open_by_dss s o reply x) b) (sym (and_true (fits call.ask reply) (is_it (Goes.Dss call) (awaited_of o.job s.values)) fit waits)) (acts_on_dss n s o call reply b w fit few)))
+    subst (λ (x : Option Opening). IsWithin n s o (replied_to s call reply x) b) (sym opened)
+    (subst (λ (x : Bool). IsWithin n s o (of_job_by_dss s o call reply x) b) (sym w.unfinished.unclosed)
+    (subst (λ (x : Bool). IsWithin n s o (open_by_dss s o reply x) b) (sym (and_true (fits call.ask reply) (is_it (Goes.Dss call) (awaited_of o.job s.values)) fit waits)) (acts_on_dss n s o call reply b w fit few)))
 
 -- a reply of another supplier
 
@@ -89,13 +89,13 @@ peer_found : (s : Standing) (o : Opening) (call : PeerCall) (reply : PeerReply) 
 peer_found s o (Calls.Details job flight manager base) Peers.Gone = ap left (round_own o.job (leaving_out flight (round_of o.job s.values)) s.values)
 peer_found s o _ _ = refl
 
-peer_waits : (s : Standing) (o : Opening) (call : PeerCall) (reply : PeerReply) → awaited_of o.job (round_by_peer s o call reply) ≡ awaited_of o.job s.values
+pub peer_waits : (s : Standing) (o : Opening) (call : PeerCall) (reply : PeerReply) → awaited_of o.job (round_by_peer s o call reply) ≡ awaited_of o.job s.values
 peer_waits s o (Calls.Details job flight manager base) Peers.Gone = round_awaited o.job (leaving_out flight (round_of o.job s.values)) s.values
 peer_waits s o _ _ = refl
 
 acts_on_peer : (n : ℕ) (s : Standing) (o : Opening) (job flight : ℕ) (manager base : List ℕ) (reply : PeerReply) (b : ℕ) → IsWaiting n s o (Goes.Peer (Calls.Details job flight manager base)) b
     → peer_fits (Calls.Details job flight manager base) reply ≡ true
-    → IsWithin n s (acting_on_peer (with_values s (round_by_peer s o (Calls.Details job flight manager base) reply)) o (Calls.Details job flight manager base) reply) b
+    → IsWithin n s o (acting_on_peer (with_values s (round_by_peer s o (Calls.Details job flight manager base) reply)) o (Calls.Details job flight manager base) reply) b
 unfolding view_of
 acts_on_peer n s o job flight manager base reply b w fit =
     let call = Calls.Details job flight manager base in
@@ -104,7 +104,7 @@ acts_on_peer n s o job flight manager base reply b w fit =
     let kind : option_and_then kind_of (awaited_of o.job v) ≡ Some Waits.Details = ap (option_and_then kind_of) (peer_waits s o call reply ∙ w.waits) in
     let same : Waits.Details ≡ w.kind = some_same Waits.Details w.kind w.is in
     let allows = subst (λ k. Allows n (left (round_of o.job s.values)) (length (trials_of o.job s.book)) (rounds_of o.ask.wish) k b) (sym same) w.allows in
-    subst (λ (x : Option Awaited). IsWithin n t (carry_out_peer t o call reply (when_awaited (view_of t o) (heard_of_peer t o reply) x)) b) (sym kind)
+    subst (λ (x : Option Awaited). IsWithin n t o (carry_out_peer t o call reply (when_awaited (view_of t o) (heard_of_peer t o reply) x)) b) (sym kind)
     (by_peer n t o job flight manager base reply b w.unfinished fit (subst (λ l. Allows n l (length (trials_of o.job s.book)) (rounds_of o.ask.wish) Waits.Details b) (sym (peer_found s o call reply)) allows))
 
 -- what is heard leaves what is waited for
@@ -113,20 +113,20 @@ unfolding progress_of
 hears n s o call b c reply w = record { unfinished = w.unfinished; waits = w.waits; its_job = w.its_job; kind = w.kind; is = w.is; allows = w.allows }
 
 peer_within : (n : ℕ) (s : Standing) (o : Opening) (call : PeerCall) (reply : PeerReply) (b : ℕ) → IsWaiting n s o (Goes.Peer call) b → peer_fits call reply ≡ true
-    → IsWithin n s (replied_to_peer s call reply (opening_of (job_of_call call) s.book)) b
+    → IsWithin n s o (replied_to_peer s call reply (opening_of (job_of_call call) s.book)) b
 peer_within n s o (Calls.Notify job place base note) reply b w fit = let e = w.is in cc
 peer_within n s o (Calls.Details job flight manager base) reply b w fit =
     let call = Calls.Details job flight manager base in
     let opened : opening_of job s.book ≡ Some o = ap (λ j. opening_of j s.book) w.its_job ∙ w.unfinished.opened in
     let waits : is_it (Goes.Peer call) (awaited_of o.job s.values) ≡ true = ap (is_it (Goes.Peer call)) w.waits ∙ same_details job flight manager base in
-    subst (λ (x : Option Opening). IsWithin n s (replied_to_peer s call reply x) b) (sym opened)
-    (subst (λ (x : Bool). IsWithin n s (of_job_by_peer s o call reply x) b) (sym w.unfinished.unclosed)
-    (subst (λ (x : Bool). IsWithin n s (open_by_peer s o call reply x) b) (sym (and_true (peer_fits call reply) (is_it (Goes.Peer call) (awaited_of o.job s.values)) fit waits))
+    subst (λ (x : Option Opening). IsWithin n s o (replied_to_peer s call reply x) b) (sym opened)
+    (subst (λ (x : Bool). IsWithin n s o (of_job_by_peer s o call reply x) b) (sym w.unfinished.unclosed)
+    (subst (λ (x : Bool). IsWithin n s o (open_by_peer s o call reply x) b) (sym (and_true (peer_fits call reply) (is_it (Goes.Peer call) (awaited_of o.job s.values)) fit waits))
     (acts_on_peer n s o job flight manager base reply b w fit)))
 
 -- a reply
 
-steps : (n : ℕ) (s : Standing) (moment : ℤ) (o : Opening) (x : Exchanged) (b : ℕ) → IsWaiting n s o (call_in x) b → AllFit (x ∷ []) → most_found (x ∷ []) ≤ n → IsWithin n s (turn_of s moment (event_in x)) b
+pub steps : (n : ℕ) (s : Standing) (moment : ℤ) (o : Opening) (x : Exchanged) (b : ℕ) → IsWaiting n s o (call_in x) b → AllFit (x ∷ []) → most_found (x ∷ []) ≤ n → IsWithin n s o (turn_of s moment (event_in x)) b
 steps n s moment o (OfDss call reply) b w fit few = replied_within n s o call reply b w fit.0 (at_most (length (found_by reply)) few)
   where
     at_most : (a : ℕ) → max a 0 ≤ n → a ≤ n
@@ -136,11 +136,11 @@ steps n s moment o (OfPeer call reply) b w fit few =
 
 -- the replies after it
 
-first_fits : (x : Exchanged) (xs : List Exchanged) → AllFit (x ∷ xs) → AllFit (x ∷ []) × AllFit xs
+pub first_fits : (x : Exchanged) (xs : List Exchanged) → AllFit (x ∷ xs) → AllFit (x ∷ []) × AllFit xs
 first_fits (OfDss call reply) xs h = ((h.0, tt), h.1)
 first_fits (OfPeer call reply) xs h = ((h.0, tt), h.1)
 
-first_few : (n : ℕ) (x : Exchanged) (xs : List Exchanged) → most_found (x ∷ xs) ≤ n → (most_found (x ∷ []) ≤ n) × (most_found xs ≤ n)
+pub first_few : (n : ℕ) (x : Exchanged) (xs : List Exchanged) → most_found (x ∷ xs) ≤ n → (most_found (x ∷ []) ≤ n) × (most_found xs ≤ n)
 first_few n (OfDss call reply) xs h = go (length (found_by reply)) (most_found xs) h
   where
     go : (a m : ℕ) → max a m ≤ n → (max a 0 ≤ n) × (m ≤ n)
@@ -150,24 +150,24 @@ first_few n (OfPeer call reply) xs h = (omega arith, h)
 some_call : (n : ℕ) (s : Standing) (o : Opening) (call : Outgoing) (b : ℕ) → IsWaiting n s o call b → 1 ≤ b
 some_call n s o call b w = some_allowed n _ _ _ w.kind b w.allows
 
-first_call : (x y : Outgoing) → x ∷ [] ≡ y ∷ [] → x ≡ y
+pub first_call : (x y : Outgoing) → x ∷ [] ≡ y ∷ [] → x ≡ y
 first_call x y e = cc (e)
 
-pub goes_within : (n : ℕ) (moment : ℤ) (s : Standing) (t : Turn) (x : Exchanged) (xs : List Exchanged) (b : ℕ)
-    → ((o : Opening) (c : ℕ) → IsWaiting n (stands_then s t) o (call_in x) c → suc (calls_made (stands_then s t) moment (event_in x) xs) ≤ c)
-    → IsWithin n s t b → t.sends ≡ call_in x ∷ [] → suc (suc (calls_made (stands_then s t) moment (event_in x) xs)) ≤ b
-goes_within n moment s t x xs b next (inl e) h = none_called (call_in x) (sym e ∙ h)
+pub goes_within : (n : ℕ) (moment : ℤ) (s : Standing) (o : Opening) (t : Turn) (x : Exchanged) (xs : List Exchanged) (b : ℕ)
+    → ((c : ℕ) → IsWaiting n (stands_then s t) o (call_in x) c → suc (calls_made (stands_then s t) moment (event_in x) xs) ≤ c)
+    → IsWithin n s o t b → t.sends ≡ call_in x ∷ [] → suc (suc (calls_made (stands_then s t) moment (event_in x) xs)) ≤ b
+goes_within n moment s o t x xs b next (inl e) h = none_called (call_in x) (sym e ∙ h)
   where
     none_called : {P : Type 0} (call : Outgoing) → [] ≡ call ∷ [] → P
     none_called call q = cc
-goes_within n moment s t x xs b next (inr (call, o, c, e, w, l)) h =
+goes_within n moment s o t x xs b next (inr (call, c, e, w, l)) h =
     let same : call ≡ call_in x = first_call call (call_in x) (sym e ∙ h) in
-    let k = next o c (subst (λ y. IsWaiting n (stands_then s t) o y c) same w) in
+    let k = next c (subst (λ y. IsWaiting n (stands_then s t) o y c) same w) in
     omega (arith, k, l)
 
-pub ends_within : (n : ℕ) (s : Standing) (t : Turn) (b : ℕ) → 1 ≤ b → IsWithin n s t b → suc (length t.sends) ≤ b
-ends_within n s t b o (inl e) = let l : length t.sends ≡ 0 = ap length e in omega (arith, l, o)
-ends_within n s t b o (inr (call, p, c, e, w, l)) =
+pub ends_within : (n : ℕ) (s : Standing) (o : Opening) (t : Turn) (b : ℕ) → 1 ≤ b → IsWithin n s o t b → suc (length t.sends) ≤ b
+ends_within n s p t b o (inl e) = let l : length t.sends ≡ 0 = ap length e in omega (arith, l, o)
+ends_within n s p t b o (inr (call, c, e, w, l)) =
     let m : length t.sends ≡ 1 = ap length e in
     let k = some_call n (stands_then s t) p call c w in
     omega (arith, m, k, l)
@@ -175,11 +175,11 @@ ends_within n s t b o (inr (call, p, c, e, w, l)) =
 pub bounded : (n : ℕ) (moment : ℤ) (s : Standing) (o : Opening) (x : Exchanged) (xs : List Exchanged) (b : ℕ) → IsWaiting n s o (call_in x) b → IsBegun s moment (event_in x) xs → AllFit (x ∷ xs) → most_found (x ∷ xs) ≤ n
     → suc (calls_made s moment (event_in x) xs) ≤ b
 bounded n moment s o x [] b w begun fit few =
-    let l = ends_within n s (turn_of s moment (event_in x)) b (some_call n s o (call_in x) b w) (steps n s moment o x b w fit few) in
+    let l = ends_within n s o (turn_of s moment (event_in x)) b (some_call n s o (call_in x) b w) (steps n s moment o x b w fit few) in
     omega (arith, l)
 bounded n moment s o x (y ∷ ys) b w begun fit few =
     let t = turn_of s moment (event_in x) in
     let f = first_fits x (y ∷ ys) fit in
     let g = first_few n x (y ∷ ys) few in
-    let l = goes_within n moment s t y ys b (λ p c v. bounded n moment (stands_then s t) p y ys c v begun.2 f.1 g.1) (steps n s moment o x b w f.0 g.0) begun.1 in
+    let l = goes_within n moment s o t y ys b (λ c v. bounded n moment (stands_then s t) o y ys c v begun.2 f.1 g.1) (steps n s moment o x b w f.0 g.0) begun.1 in
     omega (arith, l)

@@ -71,23 +71,22 @@ pub record IsWaiting (n : ℕ) (s : Standing) (o : Opening) (call : Outgoing) (b
   pub allows : Allows n (left (round_of o.job s.values)) (length (trials_of o.job s.book)) (rounds_of o.ask.wish) kind b
 
 -- nothing is called, or one call that is waited for, and with it fewer calls suffice
-abbrev pub GoesOn : ℕ → Standing → List Outgoing → ℕ → Type 0
-GoesOn n s sends b = (sends ≡ []) ⊎ ((call : Outgoing) × (o : Opening) × (c : ℕ) × (sends ≡ call ∷ []) × IsWaiting n s o call c × (c < b))
+abbrev pub GoesOn : ℕ → Standing → Opening → List Outgoing → ℕ → Type 0
+GoesOn n s o sends b = (sends ≡ []) ⊎ ((call : Outgoing) × (c : ℕ) × (sends ≡ call ∷ []) × IsWaiting n s o call c × (c < b))
 
-abbrev pub IsWithin : ℕ → Standing → Turn → ℕ → Type 0
-IsWithin n s t b = GoesOn n (stands_then s t) t.sends b
+abbrev pub IsWithin : ℕ → Standing → Opening → Turn → ℕ → Type 0
+IsWithin n s o t b = GoesOn n (stands_then s t) o t.sends b
 
 -- a call is made
 pub asks : (n : ℕ) (s : Standing) (o : Opening) (kind : Awaited) (c b : ℕ) → IsOpenJob s.book o → Allows n (left (round_of o.job s.values)) (length (trials_of o.job s.book)) (rounds_of o.ask.wish) kind c → c < b
-    → IsWithin n s (asking s o kind) b
+    → IsWithin n s o (asking s o kind) b
 asks n s o kind c b u a l = go (call_of s.owner s.book o kind) refl
   where
-    go : (x : Option DssAsk) → call_of s.owner s.book o kind ≡ x → IsWithin n s (making s o.job x) b
+    go : (x : Option DssAsk) → call_of s.owner s.book o kind ≡ x → IsWithin n s o (making s o.job x) b
     go None e = inl refl
     go (Some ask) e =
         inr (
           dss_call o.job ask,
-          o,
           c,
           refl,
           record {
@@ -103,9 +102,9 @@ asks n s o kind c b u a l = go (call_of s.owner s.book o kind) refl
 
 -- and after an entry
 pub asks_after : (n : ℕ) (s : Standing) (e : Entry) (o : Opening) (kind : Awaited) (c b : ℕ) → IsOpenJob (s.book ++ e ∷ []) o
-    → Allows n (left (round_of o.job s.values)) (length (trials_of o.job (s.book ++ e ∷ []))) (rounds_of o.ask.wish) kind c → c < b → IsWithin n s (entering s e (λ after. asking after o kind)) b
+    → Allows n (left (round_of o.job s.values)) (length (trials_of o.job (s.book ++ e ∷ []))) (rounds_of o.ask.wish) kind c → c < b → IsWithin n s o (entering s e (λ after. asking after o kind)) b
 asks_after n s e o kind c b u a l = go (call_of s.owner (s.book ++ e ∷ []) o kind) refl (asks n (entered s e) o kind c b u a l)
   where
-    go : (x : Option DssAsk) → call_of s.owner (s.book ++ e ∷ []) o kind ≡ x → IsWithin n (entered s e) (making (entered s e) o.job x) b → IsWithin n s (entering s e (λ after. making after o.job x)) b
+    go : (x : Option DssAsk) → call_of s.owner (s.book ++ e ∷ []) o kind ≡ x → IsWithin n (entered s e) o (making (entered s e) o.job x) b → IsWithin n s o (entering s e (λ after. making after o.job x)) b
     go None q w = inl refl
     go (Some ask) q w = w

@@ -80,7 +80,7 @@ pub record IsHearing (s : Standing) (moment : ℤ) (ask : FlightAsk) (service : 
   pub recents : (p : OperationalIntent) → Has recent p
       → (r : Recorded) × Has (around s moment ask service) r × (served_of r.reference.flight r.reference.manager served ≡ Some p) × (is_one_of r.reference.flight (round_of (opening_for s (clamped moment) ask).job v).asked ≡ true)
   pub apart : (q p : OperationalIntent) → Has front q → Has recent p → q.reference.flight ≢ p.reference.flight
-  pub old : (r : Recorded) → Has (around s moment ask service) r → (q : OperationalIntent) → Has front q → q.reference.flight ≡ r.reference.flight
+  pub old : (r : Recorded) → Has (around s moment ask service) r → is_own s.owner r.reference ≡ false → (q : OperationalIntent) → Has front q → q.reference.flight ≡ r.reference.flight
       → (q.reference.version ≤ r.reference.version) × (q.reference.version ≡ r.reference.version → served_of r.reference.flight r.reference.manager served ≡ Some q)
   pub few : length recent + left (round_of (opening_for s (clamped moment) ask).job v) ≤ 1024
 
@@ -136,7 +136,7 @@ kept_so s moment ask service served v r calm l h own none =
     by_version (Some q) e t =
         let k = find_has (is_of r.reference.flight) (kept_pairs v.heard) q e in
         let w = same_number q.reference.flight r.reference.flight k.1 in
-        by_one q e (λ a. (l.old r h q a w).1 (same_number q.reference.version r.reference.version t))
+        by_one q e (λ a. (l.old r h own q a w).1 (same_number q.reference.version r.reference.version t))
 
     at_asked : (b : Bool) → is_one_of x.flight round.asked ≡ b → (not b && not (is_of_version x.version (kept_pair x.flight v.heard))) ≡ false → kept_pair r.reference.flight v.heard ≡ served_of r.reference.flight r.reference.manager served
     at_asked true e t = by_asked (ap (λ f. is_one_of f round.asked) (sym same) ∙ e)

@@ -67,7 +67,7 @@ pub none_held : (job : ℕ) (book : List Entry) → is_closed job book ≡ false
 unfolding holding_of is_held
 none_held job book u = find_not (λ (h : Holding). h.job == job) (holdings book) (neither (is_held job book) (is_done job book) u).0
 
-none_done : (job : ℕ) (book : List Entry) → is_closed job book ≡ false → ending_of job book ≡ None
+pub none_done : (job : ℕ) (book : List Entry) → is_closed job book ≡ false → ending_of job book ≡ None
 unfolding ending_of is_done
 none_done job book u = find_not (λ (d : Closing). d.job == job) (endings book) (neither (is_held job book) (is_done job book) u).1
 

@@ -116,6 +116,7 @@ record IsNext (s : Standing) (moment : ℤ) (ask : FlightAsk) (service : Service
   has : Has (around s moment ask service) it
   flight_is : x.flight ≡ it.reference.flight
   manager_is : x.manager ≡ it.reference.manager
+  other : is_own s.owner it.reference ≡ false
   new : is_one_of x.flight (round_in s moment ask v).asked ≡ false
   fewer : left (asking_for x.flight (round_in s moment ask v)) + 1 ≤ left (round_in s moment ask v)
   pair : OperationalIntent
@@ -135,7 +136,7 @@ next_is s moment ask service served v x calm l e =
     let own : is_own s.owner m.0.reference ≡ false = ap (λ m. same_text m s.owner.name) (sym manager) ∙ not_true (is_own s.owner x) b.0 in
     let new = not_true (is_one_of x.flight round.asked) (both (not (is_one_of x.flight round.asked)) _ b.1).0 in
     let p = calm.served_others m.0 (recorded_around s moment ask service m.0 m.1) own in
-    record { it = m.0; has = m.1; flight_is = flight; manager_is = manager; new = new; fewer = one_fewer round x h.0 new; pair = p.0; served_so = p.1; version = p.2.version }
+    record { it = m.0; has = m.1; flight_is = flight; manager_is = manager; other = own; new = new; fewer = one_fewer round x h.0 new; pair = p.0; served_so = p.1; version = p.2.version }
 
 hears_on : (s : Standing) (moment : ℤ) (ask : FlightAsk) (service : Service) (served : List OperationalIntent) (v : Values) (x : Reference) → (l : IsHearing s moment ask service served v) → (n : IsNext s moment ask service served v x)
     → IsHearing s moment ask service served (hearing (Heard n.pair ∷ []) (asked_for s moment ask v x))
@@ -149,7 +150,7 @@ hears_on s moment ask service served v x l n =
       asked = λ r h a. asks r h (ap (λ (y : Round). is_one_of r.reference.flight y.asked) (sym round) ∙ a);
       recents = λ q h. (let k = again q h in (k.0, k.1, k.2, ap (λ (y : Round). is_one_of k.0.reference.flight y.asked) round ∙ k.3));
       apart = λ q y h k. elim (has_push l.recent p y k) [ inl i ↦ l.apart q y (kept.among q h) i | inr e ↦ λ w. kept.others q h (w ∙ ap (λ (z : OperationalIntent). z.reference.flight) (sym e)) ];
-      old = λ r h q k e. l.old r h q (kept.among q k) e;
+      old = λ r h w q k e. l.old r h w q (kept.among q k) e;
       few = let a = length-append l.recent (p ∷ []) in let b = n.fewer in let c = l.few in let d = ap left round in omega (arith, a, b, c, d);
     }
   where
@@ -170,7 +171,7 @@ hears_on s moment ask service served v x l n =
         not_both (is_one_of x.flight (round_in s moment ask v).asked) (ap (λ g. is_one_of g (round_in s moment ask v).asked) (sym same) ∙ k.3) n.new)
 
     older : (q : OperationalIntent) → Has l.front q → q.reference.flight ≡ n.pair.reference.flight → q.reference.version ≤ n.pair.reference.version
-    older q h e = let a = (l.old n.it n.has q h (e ∙ its.0)).0 in let b = n.version in omega (arith, a, b)
+    older q h e = let a = (l.old n.it n.has n.other q h (e ∙ its.0)).0 in let b = n.version in omega (arith, a, b)
 
     kept : IsKept (kept_pairs (v.heard ++ Heard n.pair ∷ [])) l.front (l.recent ++ n.pair ∷ []) n.pair.reference.flight
     kept = let c = l.few in hear_one v.heard l.front l.recent n.pair l.kept (omega (arith, c)) other older
@@ -276,13 +277,13 @@ first_hearing s moment ask service served c =
     none_asked : (r : Recorded) → is_one_of r.reference.flight [] ≡ true → (p : OperationalIntent) × Has [] p × (p.reference.flight ≡ r.reference.flight)
     none_asked r h = cc
 
-    before : (r : Recorded) → Has (around s moment ask service) r → (q : OperationalIntent) → Has (kept_pairs v.heard) q → q.reference.flight ≡ r.reference.flight
+    before : (r : Recorded) → Has (around s moment ask service) r → is_own s.owner r.reference ≡ false → (q : OperationalIntent) → Has (kept_pairs v.heard) q → q.reference.flight ≡ r.reference.flight
         → (q.reference.version ≤ r.reference.version) × (q.reference.version ≡ r.reference.version → served_of r.reference.flight r.reference.manager served ≡ Some q)
-    before r h q k e =
+    before r h other q k e =
         let found : kept_pair r.reference.flight s.values.heard ≡ Some q =
         ap (λ l. kept_pair r.reference.flight l) (sym same) ∙ ap (λ f. kept_pair f v.heard) (sym e) ∙ distinct_found (kept_pairs v.heard) q (kept_distinct v.heard) k in
         let i = recorded_around s moment ask service r h in
-        (c.calm.heard_no_newer r q i found, c.calm.heard_same r q i found)
+        (c.calm.heard_no_newer r q i other found, c.calm.heard_same r q i other found)
 
 keyed : (s : Standing) (moment : ℤ) (ask : FlightAsk) (service : Service) (served : List OperationalIntent) → keeps_key ask.wish ≡ true → nat_lt 1024 (length (around s moment ask service)) ≡ false → IsPlan s moment ask service served
     → ComesOutAs (IsOfChoice (is_new s ask) (intents_around s moment ask service served) (choice_of s (opening_for s (clamped moment) ask) (intents_around s moment ask service served))) s.owner.name served s moment (Comes.Ask ask) service

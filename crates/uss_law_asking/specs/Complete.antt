@@ -90,9 +90,9 @@ pub record IsUndisturbed (s : Standing) (moment : ℤ) (ask : FlightAsk) (servic
   pub recorded : IfSome (held ask.flight s.book) (λ p. (r : Recorded) × Has service.references r × (p.reference ≡ r.reference))
   -- each other reference is served as it is recorded
   pub served_others : (r : Recorded) → Has service.references r → is_own s.owner r.reference ≡ false → (p : OperationalIntent) × (served_of r.reference.flight r.reference.manager served ≡ Some p) × IsPairOf r p
-  -- what was heard of a recorded flight is no newer, and where it is as new, it is what is served
-  pub heard_no_newer : (r : Recorded) (p : OperationalIntent) → Has service.references r → kept_pair r.reference.flight s.values.heard ≡ Some p → p.reference.version ≤ r.reference.version
-  pub heard_same : (r : Recorded) (p : OperationalIntent) → Has service.references r → kept_pair r.reference.flight s.values.heard ≡ Some p → p.reference.version ≡ r.reference.version
+  -- what was heard of another's recorded flight is no newer, and where it is as new, it is what is served
+  pub heard_no_newer : (r : Recorded) (p : OperationalIntent) → Has service.references r → is_own s.owner r.reference ≡ false → kept_pair r.reference.flight s.values.heard ≡ Some p → p.reference.version ≤ r.reference.version
+  pub heard_same : (r : Recorded) (p : OperationalIntent) → Has service.references r → is_own s.owner r.reference ≡ false → kept_pair r.reference.flight s.values.heard ≡ Some p → p.reference.version ≡ r.reference.version
       → served_of r.reference.flight r.reference.manager served ≡ Some p
 
 -- the recorded references of other flights that share with the ticket's area

@@ -1,6 +1,6 @@
 -- An exchange: a supplier's steps from a first event to the first that says something, each next event being the reply to the call of the
 -- step before. This project's own.
-use Rattle.std.specs.Prelude.{ℕ, ◌+◌, ◌*◌, ◌≤◌, ◌≡◌, max, ℤ, true, List, [], ◌∷◌, length, Option, Some, None}
+use Rattle.std.specs.Prelude.{ℕ, ◌+◌, ◌*◌, ◌≤◌, ◌≡◌, max, ℤ, Bool, true, false, List, [], ◌∷◌, ◌++◌, map, length, Option, Some, None}
 use Rattle.uss_intent.specs.declared.calls.DssReply.{DssReply}
 use Rattle.uss_event.specs.Fits.{peer_fits}
 use Rattle.uss_event.specs.declared.asks.FlightAsk.{FlightAsk}
@@ -16,11 +16,19 @@ use Rattle.uss_law_dss.specs.Fits.{fits}
 use Rattle.uss_law_book.specs.Lists.{Opening}
 use Rattle.uss_law_book.specs.Readings.{open_job_of}
 use Rattle.uss_law_duty.specs.Duties.{book_after, says_something, clamped}
+use Rattle.uss_law_duty.specs.Answers.{job_named}
 use Rattle.uss_law_supplier.specs.Values.{Values, round_of}
 use Rattle.uss_law_supplier.specs.Turns.{Standing, Turn}
 use Rattle.uss_law_supplier.specs.Jobs.{found_by, rounds_of}
 use Rattle.uss_law_supplier.specs.Step.{stepped}
 use Rattle.uss_law_supplier.specs.Laws.{IsSound}
+
+-- an operator sends requests, cancels and positions
+abbrev pub is_operators : Event → Bool
+is_operators (Comes.Ask ask) = true
+is_operators (Comes.Cancel flight number) = true
+is_operators (Comes.Position p) = true
+is_operators _ = false
 
 -- a call that was made, and its reply
 pub data Exchanged : Type 0 where
@@ -53,9 +61,31 @@ abbrev pub last_turn : Standing → ℤ → Event → List Exchanged → Turn
 last_turn s moment event [] = turn_of s moment event
 last_turn s moment event (x ∷ xs) = last_turn (stands_then s (turn_of s moment event)) moment (event_in x) xs
 
+-- where the supplier stands before the last step, and after it
+abbrev pub stands_last : Standing → ℤ → Event → List Exchanged → Standing
+stands_last s moment event [] = s
+stands_last s moment event (x ∷ xs) = stands_last (stands_then s (turn_of s moment event)) moment (event_in x) xs
+
+abbrev pub stands_after : Standing → ℤ → Event → List Exchanged → Standing
+stands_after s moment event xs = stands_then (stands_last s moment event xs) (last_turn s moment event xs)
+
 -- the exchange is whole: its last step says something
 abbrev pub IsExchange : Standing → ℤ → Event → List Exchanged → Type 0
 IsExchange s moment event xs = IsBegun s moment event xs × (says_something (last_turn s moment event xs).said ≡ true)
+
+-- a reply without its call
+pub data Reply : Type 0 where
+  ByDss : (reply : DssReply) → Reply
+  ByPeer : (reply : PeerReply) → Reply
+
+abbrev pub reply_in : Exchanged → Reply
+reply_in (OfDss call reply) = ByDss reply
+reply_in (OfPeer call reply) = ByPeer reply
+
+-- for one supplier, first event and list of replies there is at most one whole exchange, and none that takes more of these replies
+abbrev pub ExchangesAreOne : Type 0
+ExchangesAreOne =
+    (s : Standing) (moment : ℤ) (event : Event) (xs ys : List Exchanged) (more : List Reply) → IsExchange s moment event xs → IsExchange s moment event ys → map reply_in ys ≡ map reply_in xs ++ more → xs ≡ ys
 
 -- how many calls were made, that of the last step too
 abbrev pub calls_made : Standing → ℤ → Event → List Exchanged → ℕ
@@ -78,8 +108,19 @@ abbrev pub found_before : Values → Option Opening → ℕ
 found_before values None = 0
 found_before values (Some o) = length (round_of o.job values).found
 
+-- so many calls suffice for rounds in which so many references were found
+abbrev pub call_bound : ℕ → ℕ → ℕ
+call_bound rounds found = 4 + rounds * (2 + found)
+
 -- a request makes at most 4 calls, and in each of its rounds one for each reference that was found, and 2; an End has no rounds
 abbrev pub CallsAreBounded : Type 0
 CallsAreBounded =
     (s : Standing) (moment : ℤ) (ask : FlightAsk) (xs : List Exchanged) → IsSound s.owner s.book s.values → IsBegun s moment (Comes.Ask ask) xs → AllFit xs
-    → calls_made s moment (Comes.Ask ask) xs ≤ 4 + rounds_of ask.wish * (2 + max (found_before s.values (open_job_of ask.flight s.book)) (most_found xs))
+    → calls_made s moment (Comes.Ask ask) xs ≤ call_bound (rounds_of ask.wish) (max (found_before s.values (open_job_of ask.flight s.book)) (most_found xs))
+
+-- likewise whatever an operator sends, by the rounds of the job of its request
+abbrev pub CallsOfJobsAreBounded : Type 0
+CallsOfJobsAreBounded =
+    (s : Standing) (moment : ℤ) (event : Event) (xs : List Exchanged) (o : Opening) → is_operators event ≡ true → IsSound s.owner s.book s.values → IsBegun s moment event xs → AllFit xs
+    → job_named event (stands_after s moment event xs).book ≡ Some o
+    → calls_made s moment event xs ≤ call_bound (rounds_of o.ask.wish) (max (found_before s.values (open_job_of o.ask.flight s.book)) (most_found xs))
