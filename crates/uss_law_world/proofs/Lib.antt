@@ -28,6 +28,7 @@ pub mod Product
 pub mod Between
 pub mod EachStep
 pub mod Refused
+pub mod Parties
 pub mod Contested
 pub mod WorkedSteps
 pub mod FurtherRuns

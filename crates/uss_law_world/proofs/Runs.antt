@@ -93,14 +93,14 @@ has_at [] k x h = cc
 has_at (y ∷ xs) zero x h = inl (cc)
 has_at (y ∷ xs) (suc k) x h = inr (has_at xs k x h)
 
-has_taken : {X : Type 0} (n : ℕ) (xs : List X) (x : X) → Has (take n xs) x → Has xs x
+pub has_taken : {X : Type 0} (n : ℕ) (xs : List X) (x : X) → Has (take n xs) x → Has xs x
 has_taken zero [] x h = absurd h
 has_taken zero (y ∷ xs) x h = absurd h
 has_taken (suc n) [] x h = absurd h
 has_taken (suc n) (y ∷ xs) x (inl e) = inl e
 has_taken (suc n) (y ∷ xs) x (inr h) = inr (has_taken n xs x h)
 
-post_has : (k : ℕ) (w : World) (p : Post) → post_at k w ≡ Some p → Has w.posts p
+pub post_has : (k : ℕ) (w : World) (p : Post) → post_at k w ≡ Some p → Has w.posts p
 post_has zero w p h = cc
 post_has (suc k) w p h = has_at w.posts k p h
 

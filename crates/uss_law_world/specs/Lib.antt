@@ -2,6 +2,7 @@ pub mod World
 pub mod Moves
 pub mod Free
 pub mod Refused
+pub mod Parties
 pub mod Suppliers
 pub mod Claims
 pub mod Invariants

@@ -2,13 +2,14 @@
 //! that runs.
 //!
 //! `specs/World.antt` has the world, `specs/Moves.antt` what may happen in it and what comes of that, `specs/Free.antt` which lists of
-//! moves are free, `specs/Refused.antt` which steps of a script the world refuses, `specs/Claims.antt` what is claimed,
-//! `specs/Invariants.antt` what holds beside that, of books, calls, landings, replies, keys and jobs, and `specs/Worked.antt`,
-//! `specs/Contested.antt`, `specs/WorkedEnds.antt`, `specs/WorkedStops.antt` and `specs/WorkedSweeps.antt` worked runs. In a free list of
-//! moves each step of a supplier is any that its duties allow (`MayStep` of `uss_law_duty`), and each step of the discovery service is
-//! that of its definition (`service_step` of `uss_law_dss`); messages are lost, come late or come again, and suppliers stop and restart
-//! at any moment. The functions below do nothing: their contracts carry the laws. `proofs/Facts.antt` has what is kept by every move;
-//! the proofs of the laws stand on nothing else.
+//! moves are free, `specs/Refused.antt` which steps of a script the world refuses, `specs/Parties.antt` that the suppliers of a message
+//! are there, `specs/Claims.antt` what is claimed, `specs/Invariants.antt` what holds beside that, of books, calls, landings, replies,
+//! keys and jobs, and `specs/Worked.antt`, `specs/Contested.antt`, `specs/WorkedEnds.antt`, `specs/WorkedStops.antt` and
+//! `specs/WorkedSweeps.antt` worked runs. In a free list of moves each step of a supplier is any that its duties allow (`MayStep` of
+//! `uss_law_duty`), and each step of the discovery service is that of its definition (`service_step` of `uss_law_dss`); messages are
+//! lost, come late or come again, and suppliers stop and restart at any moment. The functions below do nothing: their contracts carry
+//! the laws. `proofs/Facts.antt` has what is kept by every move that is allowed, and `proofs/Parties.antt` what is kept by any; the
+//! proofs of the laws stand on nothing else.
 //!
 //! Which clauses of `MayStep` the laws need: all of them `legal` and `records`; `keys`, `hears`, `pair`, `notes` and `held` that intents
 //! stay apart, that landings are clear and that pairs are made; `held`, `removals` and `final` that final answers are true; `held`,
@@ -19,18 +20,22 @@
 //! keep a supplier from getting in its own way.
 #![tactic(auto)]
 
-ghost use Rattle.std.specs.Prelude.{◌≡◌, ◌≤◌, ◌++◌, [], ◌∷◌, List, ℕ, Some};
+ghost use Rattle.std.specs.Prelude.{◌≡◌, ◌≤◌, ◌++◌, [], ◌∷◌, List, ℕ, Some, None};
 ghost use Rattle.uss_event.specs.declared.entries.Owner.{Owner};
 ghost use Rattle.uss_event.specs.declared.events.Answer.TheVariants as Answers;
 ghost use Rattle.uss_event.specs.declared.events.Said.TheVariants as Says;
 ghost use Rattle.uss_event.specs.Rules.{IsTable};
 ghost use Rattle.uss_law_world.specs.Suppliers.{numbered_owners};
 ghost use Rattle.uss_law_duty.specs.Worked.{owner, planned};
-ghost use Rattle.uss_law_world.specs.World.{World, start};
-ghost use Rattle.uss_law_world.specs.Moves.{Move, step_of, happens, run};
+ghost use Rattle.uss_law_world.specs.World.{Post, World, start};
+ghost use Rattle.uss_law_dss.specs.Lists.{Has};
+ghost use Rattle.uss_law_world.specs.Moves.{Move, Arrival, step_of, arrival_of, fault_of, happens, run};
 ghost use Rattle.uss_event.specs.declared.steps.Step.{Step};
+ghost use Rattle.uss_event.specs.declared.steps.Step.TheVariants as Steps;
+ghost use Rattle.uss_event.specs.declared.steps.Stopped.{Stopped};
 ghost use Rattle.uss_law_world.specs.Free.{AreSuppliers, IsAllowed, IsFree};
-ghost use Rattle.uss_law_world.specs.Refused.{step_refusal};
+ghost use Rattle.uss_law_world.specs.Refused.{stop_refusal, step_refusal};
+ghost use Rattle.uss_law_world.specs.Parties.{HasParties};
 ghost use Rattle.uss_law_world.specs.Worked.{said_in, replies_in, saying, found_again, found_again_replies, cancelled_early, cancelled_early_replies, second, both_put, both_put_replies};
 ghost use Rattle.uss_law_world.specs.Contested.{given_up, given_up_replies, given_up_sayings};
 ghost use Rattle.uss_law_world.specs.WorkedEnds.{planned_replies, watched, watched_sayings, ended, ended_replies, ended_sayings};
@@ -231,4 +236,17 @@ pub fn each_step_of_a_script_is_a_move()
 pub fn a_refused_step_changes_nothing()
     ensures unchanged { (w : World) (move : Move) (number : ℕ) → step_refusal w (step_of move) ≡ Some number → happens w move ≡ w }
     ensures allowed { (w : World) (move : Move) (number : ℕ) → step_refusal w (step_of move) ≡ Some number → IsAllowed w move }
+{}
+
+/// Whatever happened, each supplier that sent a message or is to get it is there.
+pub fn messages_have_their_suppliers()
+    ensures { (owners : List Owner) (moves : List Move) (post : Post) → Has (run (start owners) moves).posts post → HasParties (run (start owners) moves).suppliers post }
+{}
+
+/// A step that the world doesn't refuse is one that comes to a supplier: a step within which a supplier could stop, and in every world
+/// that is reached the fault of a call.
+pub fn what_is_not_refused_comes_to_a_supplier()
+    ensures step { (w : World) (step : Stopped) → stop_refusal w step ≡ None → (arrival : Arrival) × (arrival_of w step ≡ Some arrival) }
+    ensures fault { (owners : List Owner) (moves : List Move) (k : ℕ) → step_refusal (run (start owners) moves) (Steps.Fault k) ≡ None
+        → (arrival : Arrival) × (fault_of (run (start owners) moves) k ≡ Some arrival) }
 {}
