@@ -62,7 +62,7 @@ shown_is client r = record {
     go true e d = absurd (d (same_bytes r.manager client e))
     go false e d = refl
 
-is_shown : (client : List ℕ) (r x : Reference) → IsShown client r x → shown_to client r ≡ x
+pub is_shown : (client : List ℕ) (r x : Reference) → IsShown client r x → shown_to client r ≡ x
 is_shown client r x i = go (same_text r.manager client) refl
   where
     go : (b : Bool) → same_text r.manager client ≡ b → cond b r (record r { ovn = None }) ≡ x

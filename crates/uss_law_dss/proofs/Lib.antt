@@ -17,5 +17,7 @@ pub mod EachCarried
 pub mod WhoIsTold
 pub mod Means
 pub mod EachCause
+pub mod Determined
+pub mod NoOther
 pub mod Private
 pub mod Growing

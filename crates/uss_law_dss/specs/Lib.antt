@@ -9,6 +9,7 @@ pub mod Told
 pub mod Carried
 pub mod Causes
 pub mod Shown
+pub mod Answered
 pub mod Grows
 pub mod Transcript
 pub mod Telling

@@ -1,12 +1,15 @@
 //! What the discovery service (the DSS of ASTM F3548-21) is to answer: definitions and laws, and no code that runs.
 //!
 //! `specs/Service.antt` has the state, `specs/Refusals.antt` when a call is refused, `specs/Step.antt` what a call does, and
-//! `specs/Fits.antt` which replies fit a call. The functions below do nothing: their contracts carry the laws.
+//! `specs/Fits.antt` which replies fit a call. In the service's own words, apart from how these compute, `specs/Causes.antt` says why a
+//! call is refused, `specs/Carried.antt` what it does where it isn't, and `specs/Told.antt` who is told. The functions below do nothing:
+//! their contracts carry the laws.
 #![tactic(auto)]
 
 ghost use Rattle.std.specs.Prelude.{◌≡◌, ◌≢◌, ◌↔◌, ◌<◌, ◌^◌, ◌+◌, ◌≤◌, ℕ, List, length, Any, IsTrue, true, Some, None, is_some};
 ghost use Rattle.uss_vol4.specs.Volume.{Volume4D, Shares, ListsShare};
 ghost use Rattle.uss_intent.specs.declared.calls.DssAsk.{DssAsk};
+ghost use Rattle.uss_intent.specs.declared.calls.DssReply.{DssReply};
 ghost use Rattle.uss_intent.specs.declared.calls.DssReply.TheVariants.{Landed, Removed, Refused};
 ghost use Rattle.uss_intent.specs.declared.calls.DssRefusal.{DssRefusal};
 ghost use Rattle.uss_intent.specs.declared.records.Landing.{Landing};
@@ -25,6 +28,7 @@ ghost use Rattle.uss_law_dss.specs.Orderly.{IsOrderly};
 ghost use Rattle.uss_law_dss.specs.Told.{IsToldOf, Tells, TellsNobody, Keeps};
 ghost use Rattle.uss_law_dss.specs.Carried.{NoneHolds, CarriedOut};
 ghost use Rattle.uss_law_dss.specs.Causes.{Cause};
+ghost use Rattle.uss_law_dss.specs.Answered.{Answers, SameAnswers};
 ghost use Rattle.uss_law_dss.specs.Shown.{shown_in};
 ghost use Rattle.uss_law_dss.specs.Grows.{Grows, IsOvnOf};
 ghost use Rattle.uss_law_dss.specs.Fits.{fits};
@@ -123,6 +127,14 @@ pub fn refusals_have_causes()
         → IsOrderly s → Cause s client ask other → (refusal : DssRefusal) × ((service_step s client ask).0 ≡ Refused refusal) }
     ensures carried_out { (s : Service) (client : List ℕ) (ask : DssAsk)
         → IsOrderly s → ((refusal : DssRefusal) → Cause s client ask refusal → ⊥) → CarriedOut s client ask (service_step s client ask) }
+{}
+
+/// The words of an answer are whole: the service keeps them, and whatever keeps them at an orderly state gives the same reply and the same
+/// state. They leave open only which limit is named where a Put meets two.
+pub fn no_other_service()
+    ensures answers { (s : Service) (client : List ℕ) (ask : DssAsk) → IsOrderly s → Answers s client ask (service_step s client ask) }
+    ensures only { (s : Service) (client : List ℕ) (ask : DssAsk) (a b : DssReply × Service)
+        → IsOrderly s → Answers s client ask a → Answers s client ask b → SameAnswers s client ask a b }
 {}
 
 /// A refused call changes nothing.
