@@ -38,7 +38,7 @@ pub each_one : {X : Type 0} (P : X → Type 0) (y : X) → P y → (x : X) → H
 each_one P y h x (inl e) = subst P e h
 each_one P y h x (inr n) = absurd n
 
-valid_outline : IsOutline volume.outline
+pub valid_outline : IsOutline volume.outline
 valid_outline =
     record {
       enough = omega arith;
@@ -52,7 +52,7 @@ valid_outline =
       );
     }
 
-valid_volume : IsVolume volume
+pub valid_volume : IsVolume volume
 valid_volume =
     record {
       outline = valid_outline;
@@ -64,7 +64,7 @@ valid_volume =
       end = (omega arith, omega arith);
     }
 
-valid_proposal : IsProposal proposal
+pub valid_proposal : IsProposal proposal
 valid_proposal =
     record {
       few_volumes = omega arith;
@@ -261,7 +261,7 @@ attempt_is_found : attempt_of 1 tried_book ≡ Some the_attempt
 unfolding attempt_of trial_of opening_of the_attempt
 attempt_is_found = refl
 
-is_open_still : is_open 1 tried_book ≡ true
+pub is_open_still : is_open 1 tried_book ≡ true
 unfolding opening_of is_held is_done
 is_open_still = refl
 

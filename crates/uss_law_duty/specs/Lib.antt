@@ -5,3 +5,4 @@ pub mod Entered
 pub mod Sayings
 pub mod Duties
 pub mod Worked
+pub mod Flown

@@ -5,7 +5,7 @@
 //! whole of a step. `specs/Worked.antt` has a worked job. The functions below do nothing: their contracts carry the laws.
 #![tactic(auto)]
 
-ghost use Rattle.std.specs.Prelude.{[], ◌∷◌, ◌++◌, ℤ, List, Option, codes, Some, None};
+ghost use Rattle.std.specs.Prelude.{◌≡◌, [], ◌∷◌, ◌++◌, ℤ, List, Option, codes, Some, None};
 ghost use Rattle.uss_event.specs.declared.events.Answer.TheVariants as Answers;
 ghost use Rattle.uss_event.specs.declared.events.Said.TheVariants as Says;
 ghost use Rattle.uss_event.specs.declared.events.Event.TheVariants as Comes;
@@ -22,7 +22,12 @@ ghost use Rattle.uss_event.specs.declared.events.Event.{Event};
 ghost use Rattle.uss_law_duty.specs.Heard.{News};
 ghost use Rattle.uss_law_duty.specs.Heard.News.{Heard, Forgotten};
 ghost use Rattle.uss_law_duty.specs.Duties.{book_after, MayStep};
-ghost use Rattle.uss_law_duty.specs.Worked.{flight, held_book, other_pair, keyed, keyed_put, keyed_book, details_of_other, held_pair, end_ask, end_opened, ending_book, remove, end_sends, end_replied, end_done, owing_book, notify, notified, note_of_other, note_of_end, under_way, inside, above_it, now, ask, opened, heard_open, pending, recorded, cancelling, done, new_book, asked_book, ticket_book, tried_book, cancelled_book, sends, replied, ticket_put, query, put, get, ticket_remove, the_ticket, the_reference, planned, missing, exists};
+ghost use Rattle.uss_event.specs.declared.entries.Entry.TheVariants as Enters;
+ghost use Rattle.uss_intent.specs.declared.calls.DssRefusal.TheVariants as Denies;
+ghost use Rattle.uss_event.specs.declared.rules.Verdict.TheVariants.{HigherStands};
+ghost use Rattle.uss_event.specs.Verdicts.{verdict};
+ghost use Rattle.uss_law_duty.specs.Flown.{calls, replies_to, flown_ticket_book, flown_pending, flown_tried_book, flown_put, flown_reference, flown_held, changed, first_seen, strayed_book, strayed_query, strayed_pending, strayed_put, urgent_pair, staying_book, details_of_urgent, staying, staying_put, stays_as};
+ghost use Rattle.uss_law_duty.specs.Worked.{owner, flight, held_book, other_pair, keyed, keyed_put, keyed_book, details_of_other, held_pair, end_ask, end_opened, ending_book, remove, end_sends, end_replied, end_done, owing_book, notify, notified, note_of_other, note_of_end, under_way, inside, above_it, now, ask, opened, heard_open, pending, recorded, cancelling, done, new_book, asked_book, ticket_book, tried_book, cancelled_book, sends, replied, ticket_put, query, put, get, ticket_remove, the_ticket, the_reference, planned, missing, exists};
 
 /// A supplier may plan a flight: it opens a job for the request and asks for its ticket, asks what is there once it has the ticket,
 /// makes an attempt where nothing is there, and enters what landed as held.
@@ -73,6 +78,29 @@ pub fn changes_may_be_told()
 /// A supplier may say that a call failed, and which attempts of its job may still be recorded.
 pub fn a_call_may_fail()
     ensures { MayStep tried_book [] now (Comes.Failed 1) None [] (Says.Left (1 ∷ [])) [] }
+{}
+
+/// A supplier may change a flight from what it holds of it, and enters what landed as changed; and it may record as it is one that
+/// strays: with the first alternative and an empty key.
+pub fn a_flight_may_be_changed()
+    ensures flies { MayStep flown_ticket_book [] now (replies_to 2 query (Replies.Found (the_reference ∷ []))) (Some flown_pending) (calls 2 flown_put) Says.Nothing [] }
+    ensures lands { MayStep flown_tried_book [] now (replies_to 2 flown_put (Replies.Landed flown_reference [])) (Some flown_held) [] changed [] }
+    ensures strays { MayStep strayed_book [] first_seen (replies_to 3 strayed_query (Replies.Found (flown_reference ∷ []))) (Some strayed_pending) (calls 3 strayed_put) Says.Nothing [] }
+{}
+
+/// A flown flight may be recorded again as it is, though a flight of a greater priority was planned into its airspace meanwhile. Were it
+/// not flown there already, the other flight would stand against it.
+pub fn a_flown_flight_may_stay()
+    ensures stays { MayStep staying_book [] now (Comes.Peer details_of_urgent (Peers.Served urgent_pair)) (Some staying) (calls 3 staying_put) Says.Nothing (Heard urgent_pair ∷ []) }
+    ensures stands_otherwise { verdict owner.table stays_as urgent_pair None ≡ HigherStands }
+{}
+
+/// A job that gave up and whose ticket is still cited asks what is recorded. The ticket of a flight that has ended may be taken out, and
+/// is then entered as gone.
+pub fn a_ticket_may_be_taken_out()
+    ensures in_use { MayStep cancelled_book [] now (replied ticket_remove (Replies.Refused Denies.TicketInUse)) None (sends get) Says.Nothing [] }
+    ensures takes_out { MayStep (ending_book ++ end_done ∷ []) [] now (Comes.Sweep 0) None (sends ticket_remove) Says.Nothing [] }
+    ensures gone { MayStep (ending_book ++ end_done ∷ []) [] now (replied ticket_remove (Replies.TicketRemoved the_ticket)) (Some (Enters.TicketGone 1)) [] Says.Nothing [] }
 {}
 
 /// The books of the worked steps are legal, from the owner's entry on: a flight that is planned and then ended, a request that is

@@ -17,7 +17,7 @@ use Rattle.uss_event.specs.declared.calls.Outgoing.TheVariants as Goes
 use Rattle.uss_law_book.specs.Attempts.{attempted, recorded_as}
 use Rattle.uss_law_duty.specs.Worked.{owner, now, proposal, flight, ovn, tried_book, subscriber}
 use Rattle.uss_law_supplier.specs.Cases.{upper_ask}
-use Rattle.uss_law_supplier.specs.Flown.{flown_ask, flown_opened, flown_pending, flown_ovn}
+use Rattle.uss_law_duty.specs.Flown.{flown_ask, flown_opened, flown_pending, flown_ovn}
 
 abbrev pub third_subscriber : Subscriber
 third_subscriber = record { base = codes "http://uss3.test"; ticket = ticket_number 3 1; index = 5 }

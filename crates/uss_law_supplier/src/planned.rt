@@ -16,7 +16,8 @@ ghost use Rattle.uss_event.specs.declared.events.Said.TheVariants.{Nothing, Answ
 ghost use Rattle.uss_event.specs.declared.rules.Verdict.TheVariants.{EqualForbidden};
 ghost use Rattle.uss_law_duty.specs.Worked.{ask, opened, heard_open, pending, recorded, cancelling, done, new_book, asked_book, ticket_book, tried_book, held_book, cancelled_book, ending_book, ticket_put, query, put, get, ticket_remove, remove, end_ask, end_opened, end_done, the_ticket, the_reference, planned, missing, exists, keyed, keyed_put, details_of_other, other_reference, other_pair, above, ovn, flight, subscriber};
 ghost use Rattle.uss_law_supplier.specs.Cases.{refused, last_try_book, stale, stale_book, in_the_way, conflict, of_another_job, untagged, unshown, unknown_own, newer_reference, newer_round, asked_newer, of_no_manager, third_pair, details_of_third, first_of_both, both_asked, both_keyed, both_keyed_put, upper_book, upper_pending, upper_put};
-ghost use Rattle.uss_law_supplier.specs.Flown.{flown_ask, flown_opened, flown_ticket_book, flown_pending, flown_tried_book, flown_ticket_put, flown_put, flown_reference, flown_held, changed, strayed_book, strayed_query, strayed_pending, strayed_put, strayed_tried_book};
+ghost use Rattle.uss_law_duty.specs.Flown.{flown_ask, flown_opened, flown_ticket_book, flown_pending, flown_tried_book, flown_put, flown_reference, flown_held, changed, strayed_book, strayed_query, strayed_pending, strayed_put, strayed_tried_book};
+ghost use Rattle.uss_law_supplier.specs.Flown.{flown_ticket_put};
 ghost use Rattle.uss_law_supplier.specs.Values.{no_round, round_with, leaving_out};
 ghost use Rattle.uss_law_supplier.specs.Worked.{Does, Answers, nothing, waiting, calls, waits, replies, and_heard, found_other, asked_round, asked_other};
 ghost use Rattle.uss_law_supplier.specs.Turns.{dss_call};

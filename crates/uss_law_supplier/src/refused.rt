@@ -10,7 +10,7 @@ ghost use Rattle.uss_event.specs.declared.events.Event.TheVariants as Comes;
 ghost use Rattle.uss_event.specs.declared.events.Said.TheVariants.{Nothing};
 ghost use Rattle.uss_law_duty.specs.Worked.{ask, proposal, new_book, tried_book, held_book, ticket_put, now};
 ghost use Rattle.uss_law_supplier.specs.Cases.{asks, plans, nowhere, far, after_end, too_early, before_2000, last_end_of_2000, ended_book, unlawful_book, opens, busy_book};
-ghost use Rattle.uss_law_supplier.specs.Flown.{flown_book};
+ghost use Rattle.uss_law_duty.specs.Flown.{flown_book};
 ghost use Rattle.uss_law_supplier.specs.Worked.{Does, Refuses, RefusesAt, nothing};
 
 /// Requests are refused for each of their reasons. A moment before the range of instants is taken as the range's beginning.

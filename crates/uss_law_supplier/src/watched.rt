@@ -9,7 +9,8 @@ ghost use Rattle.uss_event.specs.declared.events.Answer.TheVariants as Says;
 ghost use Rattle.uss_event.specs.declared.events.Event.TheVariants as Comes;
 ghost use Rattle.uss_event.specs.declared.events.Said.TheVariants.{Nothing, Answer};
 ghost use Rattle.uss_law_duty.specs.Worked.{volume, new_book, held_book};
-ghost use Rattle.uss_law_supplier.specs.Flown.{flown_book, strayed_book, strayed_pending, strayed_put, nonconforming_book, contingent_book, first_seen, a_minute_later, two_minutes_later, just_before, within, around_it, strays, straying, losing, losing_inside, returning, ticket_round, seen_outside, seen_inside, seen, and_seen};
+ghost use Rattle.uss_law_duty.specs.Flown.{flown_book, strayed_book, strayed_pending, strayed_put, first_seen, around_it, straying, returning};
+ghost use Rattle.uss_law_supplier.specs.Flown.{nonconforming_book, contingent_book, a_minute_later, two_minutes_later, just_before, within, strays, losing, losing_inside, ticket_round, seen_outside, seen_inside, seen, and_seen};
 ghost use Rattle.uss_law_supplier.specs.Worked.{DoesAt, RefusesAt, nothing, calls, waits};
 
 /// A flight that is flown is inside its volume; it strays, and goes into Nonconforming; a minute later it is still outside, and goes into
