@@ -22,7 +22,7 @@ room_at_first : reserved [] ≤ 536870912
 unfolding reserved need journal_length
 room_at_first = omega arith
 
-owner_follows : MayFollow [] (Enters.Owner owner)
+pub owner_follows : MayFollow [] (Enters.Owner owner)
 owner_follows = record { first = refl; coding = valid_owner; due = tt; room_before = room_at_first; room_after = room_before }
 
 pub cancelled_is_legal : IsLegal (cancelled_book ++ done ∷ [])

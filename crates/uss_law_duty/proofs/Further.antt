@@ -185,7 +185,7 @@ serves =
     }
 
 -- the end of a flight
-held_is_accepted : held_state 1 held_book ≡ Some Accepted
+pub held_is_accepted : held_state 1 held_book ≡ Some Accepted
 held_is_accepted = rw is_held_now refl
 
 may_open_end : MayOpen held_book 2 end_ask

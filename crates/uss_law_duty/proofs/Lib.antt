@@ -6,3 +6,4 @@ pub mod Others
 pub mod Tickets
 pub mod Flown
 pub mod Staying
+pub mod Changes

@@ -2,7 +2,8 @@
 //!
 //! `specs/Heard.antt` has what a supplier heard and which pairs it keeps of it, `specs/Answers.antt` the answers that a book keeps,
 //! `specs/Sends.antt`, `specs/Entered.antt` and `specs/Sayings.antt` what may be sent, entered and said, and `specs/Duties.antt` the
-//! whole of a step. `specs/Worked.antt` has a worked job. The functions below do nothing: their contracts carry the laws.
+//! whole of a step. `specs/Worked.antt` has a worked job, and `specs/Flown.antt` a flight that is changed. The functions below do
+//! nothing: their contracts carry the laws.
 #![tactic(auto)]
 
 ghost use Rattle.std.specs.Prelude.{◌≡◌, [], ◌∷◌, ◌++◌, ℤ, List, Option, codes, Some, None};
@@ -104,12 +105,16 @@ pub fn a_ticket_may_be_taken_out()
 {}
 
 /// The books of the worked steps are legal, from the owner's entry on: a flight that is planned and then ended, a request that is
-/// cancelled, an attempt with a key, and a record of which another supplier was told.
+/// cancelled, an attempt with a key, a record of which another supplier was told, a flight that is flown and strays or stays, and a ticket
+/// that is gone.
 pub fn the_worked_books_are_legal()
     ensures ended { IsLegal (ending_book ++ end_done ∷ []) }
     ensures cancelled { IsLegal (cancelled_book ++ done ∷ []) }
     ensures keyed { IsLegal keyed_book }
     ensures notified { IsLegal (owing_book ++ notified ∷ []) }
+    ensures strayed { IsLegal (strayed_book ++ strayed_pending ∷ []) }
+    ensures stayed { IsLegal (staying_book ++ staying ∷ []) }
+    ensures gone { IsLegal (ending_book ++ end_done ∷ Enters.TicketGone 1 ∷ []) }
 {}
 
 /// A legal book is still legal after a step that is allowed.
