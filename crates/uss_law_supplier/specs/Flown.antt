@@ -1,4 +1,4 @@
--- Worked steps of a flight that is changed: it is flown, strays, is lost or comes back.
+-- Further worked steps of a flight that is changed, beside those of the duties: it strays, is lost or comes back.
 use Rattle.std.specs.Prelude.{ℕ, ℤ, pos, true, false, List, [], ◌∷◌, ◌++◌, codes, Some}
 use Rattle.uss_vol4.specs.Volume.{Volume4D}
 use Rattle.uss_intent.specs.Identifiers.{ticket_number}
