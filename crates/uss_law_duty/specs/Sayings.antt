@@ -51,6 +51,10 @@ FinalIsKept owner after event _ = Unit {0}
 abbrev pub others : ℕ → List Reference → List Reference
 others flight rs = filter (λ r. not (r.flight == flight)) rs
 
+-- a plan looks at no more references of other flights than these, since its key may have an OVN for each, and a key has no more
+abbrev pub most_looked_at : ℕ
+most_looked_at = 1024
+
 -- a job is open, and asked this of the discovery service, which replied so
 pub record CrowdedBy (owner : Owner) (book : List Entry) (call : DssCall) (reply : DssReply) (count : ℕ) : Type 0 where
   pub opening : Opening
@@ -59,7 +63,7 @@ pub record CrowdedBy (owner : Owner) (book : List Entry) (call : DssCall) (reply
   pub unfinished : is_open call.job book ≡ true
   pub found : reply ≡ Replies.Found references
   pub so_many : count ≡ length (others (flight_of owner opening) references)
-  pub too_many : 1024 < count
+  pub too_many : most_looked_at < count
 
 abbrev pub RefusesWith : DssReply → ℕ → Type 0
 RefusesWith (Replies.Refused refusal) number = refusal_number refusal ≡ number

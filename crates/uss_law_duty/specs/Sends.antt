@@ -44,9 +44,13 @@ pub record IsRemoveOf (owner : Owner) (book : List Entry) (job : ℕ) (ask : Dss
 abbrev pub all_extents : List Proposal → List Volume4D
 all_extents proposals = flat_map (λ (p : Proposal). p.volumes ++ p.off_nominal) proposals
 
--- the call that makes a job's ticket: round all extents of all alternatives, to be told at the configured base URL
+-- the area of a job's ticket: the rectangle round all extents of all alternatives
+abbrev pub area_round : List Proposal → Volume4D
+area_round proposals = volume_of (bounding_box (all_extents proposals))
+
+-- the call that makes a job's ticket, to be told at the configured base URL
 abbrev pub ticket_put : Owner → ℕ → List Proposal → DssAsk
-ticket_put owner job proposals = Asks.TicketPut (ticket_number owner.number job) (volume_of (bounding_box (all_extents proposals))) owner.base
+ticket_put owner job proposals = Asks.TicketPut (ticket_number owner.number job) (area_round proposals) owner.base
 
 -- the wish has these alternatives
 abbrev pub HasProposals : Wish → List Proposal → Type 0

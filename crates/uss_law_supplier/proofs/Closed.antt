@@ -122,7 +122,7 @@ good_closed_by_dss s heard moment o call reply d named c true e room =
 
 -- a notification
 
-in_range : (a n x : ℕ) → Has (range_with_len a n) x → x < a + n
+pub in_range : (a n x : ℕ) → Has (range_with_len a n) x → x < a + n
 in_range a zero x h = absurd h
 in_range a (suc n) x (inl e) = omega (arith, e)
 in_range a (suc n) x (inr h) = let r = in_range (a + 1) n x h in omega (arith, r)

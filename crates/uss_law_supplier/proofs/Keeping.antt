@@ -384,7 +384,7 @@ kept_by_peer s moment call reply =
     let k = kept_replied_peer (hearing_it s call reply) call reply (opening_of (job_of_call call) s.book) in
     record { heard = k.1.heard; positions = k.1.positions ∙ sym (append-nil s.values.positions); jobs = (k.0, hearing_more s.values (heard_by call reply) _ _ k.0 k.1) }
 
-changes : (s : Standing) (moment : ℤ) (event : Event) → Changes s.book s.values moment event (stepped s moment event)
+pub changes : (s : Standing) (moment : ℤ) (event : Event) → Changes s.book s.values moment event (stepped s moment event)
 changes s moment (Comes.Ask ask) = moved s (Comes.Ask ask) moment _ refl (moved_not s.values _ _ (kept_asked s moment ask (plan_refusal ask.wish)))
 changes s moment (Comes.Cancel flight number) = moved s (Comes.Cancel flight number) moment _ refl (moved_not s.values _ _ (kept_cancelled s number (last_of flight s.book)))
 changes s moment (Comes.Position p) = moved s (Comes.Position p) moment _ refl (moved_positioned s moment p (held p.flight s.book))

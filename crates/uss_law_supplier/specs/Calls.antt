@@ -3,7 +3,6 @@
 use Rattle.std.specs.Prelude.{ℕ, Bool, false, List, [], Option, Some, None, option_map, option_and_then}
 use Rattle.std.specs.List.{last_or}
 use Rattle.uss_vol4.specs.Volume.{Volume4D}
-use Rattle.uss_vol4.specs.Bounding.{bounding_box, volume_of}
 use Rattle.uss_intent.specs.declared.calls.DssAsk.{DssAsk}
 use Rattle.uss_intent.specs.declared.calls.DssAsk.TheVariants as Asks
 use Rattle.uss_event.specs.Same.{same_call}
@@ -20,7 +19,7 @@ use Rattle.uss_law_book.specs.Lists.{Opening, Trial}
 use Rattle.uss_law_book.specs.Readings.{trials_of, base_of}
 use Rattle.uss_law_book.specs.Attempts.{Attempted, attempt_of, put_of}
 use Rattle.uss_law_duty.specs.Answers.{flight_of}
-use Rattle.uss_law_duty.specs.Sends.{all_extents, ticket_put, ticket_remove}
+use Rattle.uss_law_duty.specs.Sends.{area_round, ticket_put, ticket_remove}
 use Rattle.uss_law_supplier.specs.declared.duties.Awaited.{Awaited}
 use Rattle.uss_law_supplier.specs.declared.duties.Awaited.TheVariants as Waits
 
@@ -29,9 +28,9 @@ abbrev pub proposals_of : Wish → List Proposal
 proposals_of (Put to priority rounds proposals) = proposals
 proposals_of End = []
 
--- the area of a job's ticket, in which a plan looks too
+-- a plan looks in the area of its job's ticket
 abbrev pub area_of : Wish → Volume4D
-area_of wish = volume_of (bounding_box (all_extents (proposals_of wish)))
+area_of wish = area_round (proposals_of wish)
 
 -- the last attempt of a job
 unfoldable pub last_trial : ℕ → List Entry → Option Trial

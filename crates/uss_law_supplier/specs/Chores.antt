@@ -51,6 +51,10 @@ abbrev pub chore_call : Owner → List Entry → Chore → Option Outgoing
 chore_call owner book (Tell job place) = option_and_then (notify_of owner book place) (opening_of job book)
 chore_call owner book (Retire job) = Some (dss_call job (ticket_remove owner job))
 
--- a sweep makes the calls of at most 64 chores, after the first so many; none of them is waited for
+-- the most chores of one sweep: few, so that it is soon over; the next goes on after them
+abbrev pub most_chores : ℕ
+most_chores = 64
+
+-- a sweep makes the calls of chores, after the first so many; none of them is waited for
 abbrev pub swept : Standing → ℕ → Turn
-swept s skip = sending s.values (filter_map (chore_call s.owner s.book) (take 64 (drop skip (chores s.book))))
+swept s skip = sending s.values (filter_map (chore_call s.owner s.book) (take most_chores (drop skip (chores s.book))))
