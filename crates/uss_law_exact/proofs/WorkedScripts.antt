@@ -8,7 +8,7 @@ use Rattle.uss_vol4.specs.Volume.{IsVolume}
 use Rattle.uss_law_book.specs.Coding.{IsProposal, IsPutWish}
 use Rattle.uss_law_duty.specs.Worked.{owner, ask, proposal, end_ask, inside, above_it}
 use Rattle.uss_law_duty.proofs.Worked.{opens}
-use Rattle.uss_law_supplier.specs.Typed.{IsRequest, IsPosition, IsAlternative}
+use Rattle.uss_law_supplier.specs.Typed.{IsRequest, IsPosition, IsAlternative, IsWished}
 use Rattle.uss_law_world.specs.Free.{AreSuppliers}
 use Rattle.uss_law_world.specs.Suppliers.{numbered_owners}
 use Rattle.uss_law_world.specs.Worked.{found_again, cancelled_early, second, both_put}
@@ -18,6 +18,8 @@ use Rattle.uss_law_world.specs.WorkedSweeps.{told}
 use Rattle.uss_law_world.specs.Contested.{given_up}
 use Rattle.uss_law_world.proofs.Product.{numbered_are_suppliers}
 use Rattle.uss_law_exact.specs.Exact.{script_of, AreTyped}
+use Rattle.uss_law_supplier.specs.Flown.{flown_ask, around_it, strays}
+use Rattle.uss_law_exact.specs.WorkedFlight.{ended_ask, whole_life}
 use Rattle.uss_law_exact.specs.Worked.{later, later_proposal, later_ask, both_asked}
 
 -- the suppliers
@@ -136,3 +138,45 @@ told_is_typed = (tt, (asked, (tt, (asked, (tt, (tt, (tt, (tt, (tt, (tt, (tt, (tt
 
 pub both_asked_is_typed : AreTyped both_asked
 both_asked_is_typed = (tt, (asked, (later_asked, (tt, (tt, tt)))))
+
+-- what is asked in the life of a flight
+
+flown_asked : IsRequest flown_ask
+flown_asked =
+    let w : IsWished 0 4 (proposal ∷ []) = asked.wish in
+    record { flight = omega arith; number = omega arith; wish = record { priority_fits = w.priority_fits; rounds_fit = w.rounds_fit; alternatives = w.alternatives } }
+
+around_outline : IsOutline around_it.outline
+around_outline =
+    record {
+      enough = omega arith;
+      few = omega arith;
+      in_plane = All-from_recursion InPlane around_it.outline (
+        (omega arith, omega arith, omega arith, omega arith),
+        (
+          (omega arith, omega arith, omega arith, omega arith),
+          ((omega arith, omega arith, omega arith, omega arith), ((omega arith, omega arith, omega arith, omega arith), tt)),
+        ),
+      );
+    }
+
+around_is_volume : IsVolume around_it
+around_is_volume =
+    record {
+      outline = around_outline;
+      altitudes = omega arith;
+      times = omega arith;
+      low = (omega arith, omega arith);
+      high = (omega arith, omega arith);
+      start = (omega arith, omega arith);
+      end = (omega arith, omega arith);
+    }
+
+strays_is_position : IsPosition (strays 3)
+strays_is_position = record { flight = omega arith; number = omega arith; off_nominal = All-from_recursion IsVolume (around_it ∷ []) (around_is_volume, tt) }
+
+ended_asked : IsRequest ended_ask
+ended_asked = record { flight = omega arith; number = omega arith; wish = tt }
+
+pub whole_life_is_typed : AreTyped whole_life
+whole_life_is_typed = (tt, (asked, (tt, (flown_asked, (tt, (tt, (strays_is_position, (tt, (tt, (ended_asked, (tt, (tt, (tt, tt)))))))))))))

@@ -2,7 +2,8 @@
 #![tactic(auto, unfolding(crate::proofs::Computed::computed))]
 
 ghost use Rattle.std.specs.Prelude.{◌≡◌, [], ◌∷◌};
-ghost use Rattle.uss_law_duty.specs.Worked.{owner};
+ghost use Rattle.uss_law_duty.specs.Worked.{owner, flight};
+ghost use Rattle.uss_law_world.specs.World.{book_of};
 ghost use Rattle.uss_law_world.specs.Free.{AreSuppliers};
 ghost use Rattle.uss_law_world.specs.Worked.{said_in, found_again, cancelled_early, second, both_put};
 ghost use Rattle.uss_law_world.specs.WorkedEnds.{watched, ended};
@@ -11,6 +12,7 @@ ghost use Rattle.uss_law_world.specs.WorkedSweeps.{told};
 ghost use Rattle.uss_law_world.specs.Contested.{given_up, given_up_sayings};
 ghost use Rattle.uss_law_exact.specs.Exact.{script_of, AreTyped};
 ghost use Rattle.uss_law_exact.specs.Worked.{IsExact, both_asked, both_asked_world, both_asked_posts, both_asked_records, both_asked_landings};
+ghost use Rattle.uss_law_exact.specs.WorkedFlight.{whole_life, whole_life_world, whole_life_sayings, whole_life_book, whole_life_landings};
 
 /// The worked runs of the world are runs of exact suppliers: by their scripts the suppliers choose what was chosen there. One supplier
 /// finds a lost landing again, and gives up a request that is cancelled early.
@@ -47,6 +49,15 @@ pub fn the_second_of_two_is_in_conflict()
     ensures history { both_asked_world.service.landings ≡ both_asked_landings }
 {}
 
+/// The whole life of a flight: what its supplier says, what its book tells in the end, and that nothing is recorded any more.
+pub fn a_flight_is_flown_strays_and_ends()
+    ensures sayings { said_in whole_life_world ≡ whole_life_sayings }
+    ensures book { book_of 1 whole_life_world ≡ whole_life_book }
+    ensures records { whole_life_world.service.references ≡ [] }
+    ensures retired { whole_life_world.service.retired_flights ≡ flight ∷ [] }
+    ensures history { whole_life_world.service.landings ≡ whole_life_landings }
+{}
+
 /// What is proved of exact runs says something of the worked ones: their suppliers are suppliers, and their scripts are typed.
 pub fn worked_scripts_are_typed()
     ensures one { AreSuppliers (0 ∷ []) (owner ∷ []) }
@@ -62,4 +73,5 @@ pub fn worked_scripts_are_typed()
     ensures given_up { AreTyped (script_of given_up) }
     ensures told { AreTyped (script_of told) }
     ensures both_asked { AreTyped both_asked }
+    ensures whole_life { AreTyped whole_life }
 {}
