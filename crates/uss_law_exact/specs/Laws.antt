@@ -1,5 +1,5 @@
 -- What holds of the runs of exact suppliers.
-use Rattle.std.specs.Prelude.{ℕ, ◌≡◌, List, Some}
+use Rattle.std.specs.Prelude.{ℕ, ◌≡◌, List, ◌++◌, Some}
 use Rattle.uss_intent.specs.declared.calls.DssAsk.TheVariants as Asks
 use Rattle.uss_intent.specs.declared.calls.DssReply.{DssReply}
 use Rattle.uss_event.specs.declared.entries.Owner.{Owner}
@@ -18,9 +18,15 @@ use Rattle.uss_law_world.specs.Refused.{step_refusal}
 use Rattle.uss_law_exact.specs.Exact.{Exact, exact_start, choice_for, exact_step, exact_run, moves_of, script_of, AreTyped}
 use Rattle.uss_law_exact.specs.Drains.{Delivers}
 
--- what holds of every world that a script of exact suppliers leads to
-abbrev pub InEachWorld : (List ℕ → World → Type 0) → Type 0
-InEachWorld P = (table : List ℕ) (owners : List Owner) (steps : List Step) → AreSuppliers table owners → AreTyped steps → P table (exact_run (exact_start owners) steps).world
+-- it holds of every world that a script of exact suppliers leads to
+abbrev pub InEachWorld : (List ℕ → List Owner → World → Type 0) → Type 0
+InEachWorld P = (table : List ℕ) (owners : List Owner) (steps : List Step) → AreSuppliers table owners → AreTyped steps → P table owners (exact_run (exact_start owners) steps).world
+
+-- and of each two worlds, the second of which the script leads to from the first
+abbrev pub FromThenOn : (World → World → Type 0) → Type 0
+FromThenOn P =
+    (table : List ℕ) (owners : List Owner) (steps more : List Step) → AreSuppliers table owners → AreTyped (steps ++ more)
+    → P (exact_run (exact_start owners) steps).world (exact_run (exact_start owners) (steps ++ more)).world
 
 -- the run of exact suppliers is a free one, so what holds of free runs holds of it: its world is the one that its moves lead to
 abbrev pub ExactRunsAreFree : Type 0
@@ -44,7 +50,7 @@ IsSettled (Says.Answer (Answers.Unsettled tag)) = ⊥
 IsSettled _ = Unit {0}
 
 abbrev pub NoJobIsUnsettled : Type 0
-NoJobIsUnsettled = InEachWorld (λ table w. (x : Saying) → Has w.sayings x → IsSettled x.said)
+NoJobIsUnsettled = InEachWorld (λ table owners w. (x : Saying) → Has w.sayings x → IsSettled x.said)
 
 -- nor that the discovery service refused it its own flight's reference: not in a step that delivers, drains or stops
 abbrev pub IsUnrefused : Said → Type 0
