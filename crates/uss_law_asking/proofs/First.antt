@@ -17,7 +17,6 @@ use Rattle.uss_event.specs.declared.asks.AskField.TheVariants as Fields
 use Rattle.uss_event.specs.declared.asks.AskRefusal.{AskRefusal}
 use Rattle.uss_event.specs.declared.asks.AskRefusal.TheVariants as Refuses
 use Rattle.uss_event.specs.declared.entries.Entry.{Entry}
-use Rattle.uss_event.specs.declared.entries.Ending.{Ending}
 use Rattle.uss_event.specs.declared.entries.Ending.TheVariants as Ends
 use Rattle.uss_event.specs.declared.calls.Outgoing.{Outgoing}
 use Rattle.uss_event.specs.declared.events.Answer.TheVariants as Answers
@@ -60,6 +59,7 @@ use Rattle.uss_law_asking.specs.Causes.{AsksForNoChange}
 use Rattle.uss_law_asking.proofs.Budget.{cost, IsWaiting, IsWithin}
 use Rattle.uss_law_asking.proofs.Acts.{gives_up}
 use Rattle.uss_law_asking.proofs.Asked.{resumes, new_duty, opens}
+use Rattle.uss_law_asking.proofs.Lacks.{IsPlain, gives_up_plain, resumes_plain}
 use Rattle.uss_law_asking.proofs.Stops.{IsOnce, IsKeeping, asks_silently_after, gives_up_so, goes_on_silently, attempts_silently}
 
 -- the step is of a job: so many calls suffice, and nothing is said, or what the book keeps of it
@@ -67,6 +67,7 @@ pub record OfJob (s : Standing) (event : Event) (o : Opening) (t : Turn) : Type 
   pub named : job_named event (book_after s.book t.entry) ≡ Some o
   pub within : (n : ℕ) → found_before s.values (open_job_of o.ask.flight s.book) ≤ n → IsWithin n s o t (5 + cost (rounds_of o.ask.wish) n)
   pub keeps : IsKeeping s o t
+  pub plain : IsPlain t
 
 -- it refuses, or is of a job that is so
 abbrev pub FirstIs : (Opening → Type 0) → Standing → Event → Option AskRefusal → Turn → Type 0
@@ -133,18 +134,20 @@ module _ (s : Standing) (event : Event) (o : Opening) (sound : IsSound s.owner s
         named = named_then event s.book (resuming s o).entry o named;
         within = λ n few. resumes n s o (its u) (legal_known s.book sound.legal) ((legal_known s.book sound.legal).firm o has) sound.fit (few_of n u few);
         keeps = resumes_silently s o;
+        plain = resumes_plain s o;
       }
 
-  of_given_up : is_closed o.job s.book ≡ false → (end : Ending) → OfJob s event o (giving_up s o end)
-  of_given_up u end =
+  of_given_up : is_closed o.job s.book ≡ false → OfJob s event o (giving_up s o Ends.Cancelled)
+  of_given_up u =
       record {
-        named = named_then event s.book (giving_up s o end).entry o named;
-        within = λ n few. gives_up n s o end (5 + cost (rounds_of o.ask.wish) n) (its u) (omega arith);
-        keeps = gives_up_so s o end (its u);
+        named = named_then event s.book (giving_up s o Ends.Cancelled).entry o named;
+        within = λ n few. gives_up n s o Ends.Cancelled (5 + cost (rounds_of o.ask.wish) n) (its u) (omega arith);
+        keeps = gives_up_so s o Ends.Cancelled (its u);
+        plain = gives_up_plain s o Ends.Cancelled refl;
       }
 
   of_answered : OfJob s event o (answered_again s o)
-  of_answered = record { named = named; within = λ n few. inl refl; keeps = inr (refl, closed_once o.job s.book (legal_is_orderly s.book sound.legal)) }
+  of_answered = record { named = named; within = λ n few. inl refl; keeps = inr (refl, closed_once o.job s.book (legal_is_orderly s.book sound.legal)); plain = refl }
 
 -- a repeated request has the rounds of the one before
 
@@ -218,6 +221,7 @@ module _ (s : Standing) (event : Event) (at : ℤ) (ask : FlightAsk) (about : Is
             named = about (s.book ++ e ∷ []) ∙ new_named s at ask later;
             within = λ n few. opens n s at ask orderly (legal_known s.book sound.legal) plan;
             keeps = subst (λ (t : Turn). IsKeeping s o (with_entry e t)) (sym (new_duty s at ask orderly (legal_known s.book sound.legal))) (asks_silently_after s o e (first_kind (is_end ask.wish)));
+            plain = refl;
           }
 
       go : (x : Option AskRefusal) → FirstIs (IsFor ask) s event x (new_by s at ask x)
@@ -287,7 +291,7 @@ of_cancel s flight number sound = at_last (last_of flight s.book) refl
 
     at_end : (last : Opening) (b : Bool) → Has (openings s.book) last → job_named event s.book ≡ Some last → is_closed last.job s.book ≡ false → OfJob s event last (cancelled_open s last b)
     at_end last true h named u = of_resumed s event last sound h named u
-    at_end last false h named u = of_given_up s event last sound h named u Ends.Cancelled
+    at_end last false h named u = of_given_up s event last sound h named u
 
     at_closed : (last : Opening) (b : Bool) → Has (openings s.book) last → job_named event s.book ≡ Some last → is_closed last.job s.book ≡ b → OfJob s event last (cancelled_job s last b)
     at_closed last true h named q = of_answered s event last sound h named
@@ -310,7 +314,7 @@ of_cancel s flight number sound = at_last (last_of flight s.book) refl
 -- that it is counted leaves the job
 counted_job : (s : Standing) (event : Event) (o : Opening) (flight : ℕ) (g : Sighting) (t : Turn) → OfJob s event o t → OfJob s event o (counted_with flight g t)
 unfolding progress_of
-counted_job s event o flight g t j = record { named = j.named; within = λ n few. go n (is_refused t.said) (j.within n few); keeps = j.keeps }
+counted_job s event o flight g t j = record { named = j.named; within = λ n few. go n (is_refused t.said) (j.within n few); keeps = j.keeps; plain = j.plain }
   where
     waits : (n : ℕ) (c : ℕ) (call : Outgoing) (b : Bool) → IsWaiting n (stands_then s t) o call c → IsWaiting n (stands_then s (record t { values = counted_unless b flight g t.values })) o call c
     waits n c call true w = w

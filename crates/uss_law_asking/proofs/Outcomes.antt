@@ -58,14 +58,14 @@ use Rattle.uss_law_asking.proofs.First.{OfJob, FirstStep, first_step, named_then
 abbrev the_call : ℕ → DssAsk → DssCall
 the_call job ask = record { job = job; ask = ask }
 
-dss_turn : (n : ℕ) (s : Standing) (moment : ℤ) (o : Opening) (call : DssCall) (reply : DssReply) (b : ℕ) → (w : IsWaiting n s o (Goes.Dss call) b) → fits call.ask reply ≡ true
+pub dss_turn : (n : ℕ) (s : Standing) (moment : ℤ) (o : Opening) (call : DssCall) (reply : DssReply) (b : ℕ) → (w : IsWaiting n s o (Goes.Dss call) b) → fits call.ask reply ≡ true
     → turn_of s moment (Comes.Dss call reply)
     ≡ carry_out (with_values s (round_by_dss s o reply)) o reply (on_heard (view_of (with_values s (round_by_dss s o reply)) o) w.kind (heard_of_dss (with_values s (round_by_dss s o reply)) o reply))
 dss_turn n s moment o call reply b w fit =
     let same : the_call call.job call.ask ≡ the_call o.job call.ask = ap (λ (j : ℕ). the_call j call.ask) w.its_job in
     ap (λ (c : DssCall). turn_of s moment (Comes.Dss c reply)) same ∙ acts_so s moment o call.ask reply w.kind w.unfinished (w.waits ∙ ap (λ (c : DssCall). Some (Goes.Dss c)) same) w.is fit
 
-peer_turn : (n : ℕ) (s : Standing) (moment : ℤ) (o : Opening) (job flight : ℕ) (manager base : List ℕ) (reply : PeerReply) (b : ℕ) → IsWaiting n s o (Goes.Peer (Calls.Details job flight manager base)) b
+pub peer_turn : (n : ℕ) (s : Standing) (moment : ℤ) (o : Opening) (job flight : ℕ) (manager base : List ℕ) (reply : PeerReply) (b : ℕ) → IsWaiting n s o (Goes.Peer (Calls.Details job flight manager base)) b
     → peer_fits (Calls.Details job flight manager base) reply ≡ true
     → (t : Standing) × (t.owner ≡ s.owner) × (t.book ≡ s.book)
     × (turn_of s moment (Comes.Peer (Calls.Details job flight manager base) reply) ≡ carry_out_peer t o (Calls.Details job flight manager base) reply (on_heard (view_of t o) Waits.Details (heard_of_peer t o reply)))
@@ -87,7 +87,7 @@ peer_turn n s moment o job flight manager base reply b w fit =
     )
 
 -- says nothing, what the book keeps, or the answer with which the job stops there
-says_at : (n : ℕ) (s : Standing) (moment : ℤ) (o : Opening) (x : Exchanged) (b : ℕ) → IsWaiting n s o (call_in x) b → AllFit (x ∷ []) → IsSaying s o (stop_by s.owner o s.book x) (turn_of s moment (event_in x))
+pub says_at : (n : ℕ) (s : Standing) (moment : ℤ) (o : Opening) (x : Exchanged) (b : ℕ) → IsWaiting n s o (call_in x) b → AllFit (x ∷ []) → IsSaying s o (stop_by s.owner o s.book x) (turn_of s moment (event_in x))
 says_at n s moment o (OfDss call reply) b w fit =
     let t = with_values s (round_by_dss s o reply) in
     subst (λ (x : Turn). IsSaying s o (stop_by s.owner o s.book (OfDss call reply)) x) (sym (dss_turn n s moment o call reply b w fit.0)) (says_by_dss t o call.ask reply w.kind w.is w.unfinished fit.0)

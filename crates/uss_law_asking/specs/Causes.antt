@@ -27,7 +27,7 @@ use Rattle.uss_event.specs.declared.events.Event.{Event}
 use Rattle.uss_event.specs.declared.events.Event.TheVariants as Comes
 use Rattle.uss_law_dss.specs.Lists.{Has}
 use Rattle.uss_law_book.specs.Lists.{Opening, Closing}
-use Rattle.uss_law_book.specs.Readings.{open_job_of, decision_of, ending_of, is_closed}
+use Rattle.uss_law_book.specs.Readings.{open_job_of, decision_of, ending_of}
 use Rattle.uss_law_book.specs.Attempts.{held}
 use Rattle.uss_law_duty.specs.Duties.{clamped}
 use Rattle.uss_law_duty.specs.Answers.{is_final, flight_of, by_end, kept_answer, job_named}
@@ -38,8 +38,9 @@ use Rattle.uss_law_supplier.specs.Values.{sightings_of}
 use Rattle.uss_law_supplier.specs.Turns.{Standing}
 use Rattle.uss_law_supplier.specs.Jobs.{keeps_key, owns_tag}
 use Rattle.uss_law_supplier.specs.Positions.{is_numbered}
+use Rattle.uss_law_supplier.specs.Typed.{IsEvent}
 use Rattle.uss_law_supplier.specs.Laws.{IsSound}
-use Rattle.uss_law_asking.specs.Exchange.{Exchanged, is_operators, IsExchange, AllFit, last_turn, stands_after}
+use Rattle.uss_law_asking.specs.Exchange.{Exchanged, is_operators, IsExchange, AllFit, AllTyped, last_turn, stands_after}
 use Rattle.uss_law_asking.specs.Exchange.Exchanged.{OfDss, OfPeer}
 use Rattle.uss_law_asking.specs.Refused.{refusal_at, finding_at, change_at}
 
@@ -198,15 +199,15 @@ missing_in _ = None
 abbrev pub missing_last : List Exchanged → Option (List ℕ)
 missing_last xs = last_or None (filter_map missing_in xs)
 
--- Stale names the flights that the last refusal for want of OVNs did: where the job had not decided before, that is one of this exchange;
--- else the book had them
-pub record NamesTheMissing (before : List Entry) (book : List Entry) (event : Event) (xs : List Exchanged) (missing : List ℕ) : Type 0 where
+-- Stale names the flights that the last refusal for want of OVNs did: in this exchange, where the job hadn't decided before it; else the
+-- book has them since then
+pub record NamesTheMissing (before book : List Entry) (event : Event) (xs : List Exchanged) (missing : List ℕ) : Type 0 where
   pub opening : Opening
   pub named : job_named event book ≡ Some opening
-  pub new : is_closed opening.job before ≡ false → decision_of opening.job before ≡ None → missing_last xs ≡ Some missing
-  pub decided : (d : Closing) → decision_of opening.job before ≡ Some d → d.end ≡ Ends.Stale missing
+  pub here : decision_of opening.job before ≡ None → missing_last xs ≡ Some missing
+  pub earlier : (d : Closing) → decision_of opening.job before ≡ Some d → d.end ≡ Ends.Stale missing
 
 abbrev pub StaleNamesTheMissing : Type 0
 StaleNamesTheMissing =
-    (s : Standing) (moment : ℤ) (event : Event) (xs : List Exchanged) (missing : List ℕ) → IsCarriedOut s moment event xs → outcome s moment event xs ≡ Says.Answer (Answers.Stale missing)
+    (s : Standing) (moment : ℤ) (event : Event) (xs : List Exchanged) (missing : List ℕ) → IsCarriedOut s moment event xs → IsEvent event → AllTyped xs → outcome s moment event xs ≡ Says.Answer (Answers.Stale missing)
     → NamesTheMissing s.book (book_then s moment event xs) event xs missing

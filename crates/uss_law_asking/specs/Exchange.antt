@@ -1,6 +1,6 @@
 -- An exchange: a supplier's steps from a first event to the first that says something, each next event being the reply to the call of the
 -- step before. This project's own.
-use Rattle.std.specs.Prelude.{ℕ, ◌+◌, ◌*◌, ◌≤◌, ◌≡◌, max, ℤ, Bool, true, false, List, [], ◌∷◌, ◌++◌, map, length, Option, Some, None}
+use Rattle.std.specs.Prelude.{ℕ, ◌+◌, ◌*◌, ◌≤◌, ◌≡◌, ◌⊎◌, max, ℤ, Bool, true, false, List, [], ◌∷◌, ◌++◌, map, length, Option, Some, None}
 use Rattle.uss_intent.specs.declared.calls.DssReply.{DssReply}
 use Rattle.uss_event.specs.Fits.{peer_fits}
 use Rattle.uss_event.specs.declared.asks.FlightAsk.{FlightAsk}
@@ -21,6 +21,7 @@ use Rattle.uss_law_supplier.specs.Values.{Values, round_of}
 use Rattle.uss_law_supplier.specs.Turns.{Standing, Turn}
 use Rattle.uss_law_supplier.specs.Jobs.{found_by, rounds_of}
 use Rattle.uss_law_supplier.specs.Step.{stepped}
+use Rattle.uss_law_supplier.specs.Typed.{IsEvent}
 use Rattle.uss_law_supplier.specs.Laws.{IsSound}
 
 -- an operator sends requests, cancels and positions
@@ -96,6 +97,17 @@ abbrev pub AllFit : List Exchanged → Type 0
 AllFit [] = Unit {0}
 AllFit (OfDss call reply ∷ xs) = (fits call.ask reply ≡ true) × AllFit xs
 AllFit (OfPeer call reply ∷ xs) = (peer_fits call reply ≡ true) × AllFit xs
+
+-- each reply is of its types
+abbrev pub AllTyped : List Exchanged → Type 0
+AllTyped [] = Unit {0}
+AllTyped (x ∷ xs) = IsEvent (event_in x) × AllTyped xs
+
+-- nobody is left without an answer or a next call: as far as an exchange has gone, its last step says something, or makes exactly one call
+abbrev pub ExchangesGoOn : Type 0
+ExchangesGoOn =
+    (s : Standing) (moment : ℤ) (event : Event) (xs : List Exchanged) → is_operators event ≡ true → IsSound s.owner s.book s.values → IsEvent event → IsBegun s moment event xs → AllFit xs → AllTyped xs
+    → (says_something (last_turn s moment event xs).said ≡ true) ⊎ (length (last_turn s moment event xs).sends ≡ 1)
 
 -- the greatest number of references that a query of these gave
 abbrev pub most_found : List Exchanged → ℕ
