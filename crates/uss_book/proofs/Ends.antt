@@ -15,9 +15,9 @@ use Rattle.uss_law_book.specs.Legal.{IsDue, IsLegal, is_owner}
 use Rattle.uss_law_book.specs.Reserve.{need, is_reserved, reserved}
 use Rattle.uss_law_book.proofs.Kept.{open_parts}
 use Rattle.uss_coding_base.specs.TextLaws.{base_short}
-use Rattle.uss_entries.specs.Reserve.{for_ticket, taken, released, settled_by}
-use Rattle.uss_entries.proofs.Needed.{need_grows}
-use Rattle.uss_entries.proofs.Settled.{settled_grows}
+use Rattle.uss_law_book.specs.Changes.{for_ticket, taken, released, settled_by}
+use Rattle.uss_law_book.proofs.Needed.{need_grows}
+use Rattle.uss_law_book.proofs.Settled.{settled_grows}
 use Rattle.uss_book.specs.Ends.{opens, EachGoesOn, EachOpens, EachOpensByUsed}
 use Rattle.uss_book.proofs.Room.{legal_covers, short_name, short_ovn, open_job_wrote}
 

@@ -27,8 +27,8 @@ use Rattle.uss_law_book.specs.Legal.{MayFollow, MayAllFollow, IsLegal, IsDue, Ma
 use Rattle.uss_law_book.specs.Reserve.{journal_limit, need, is_reserved, reserved, ReserveCovers}
 use Rattle.uss_law_book.proofs.Entries.{trials_append, which_opening, unclosed_before, unclosed_by}
 use Rattle.uss_law_book.proofs.Kept.{opening_has, open_parts}
-use Rattle.uss_entries.specs.Tallies.{is_later_of, bytes_of}
-use Rattle.uss_entries.proofs.Counted.{bytes_grow}
+use Rattle.uss_law_book.specs.Changes.{is_later_of, bytes_of}
+use Rattle.uss_law_book.proofs.Bytes.{bytes_grow}
 
 -- ---- the reserve covers a legal book
 

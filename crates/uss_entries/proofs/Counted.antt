@@ -5,7 +5,6 @@ use Rattle.std.specs.Ordering.{nat_cmp}
 use Rattle.std.specs.Cmp.{unsigned_ties}
 use Rattle.std.specs.BTreeMap as tree
 use Rattle.std.specs.BTreeMap.{BTreeMap, is_at}
-use Rattle.std.proofs.lemmas.List.Sums.{sum_by-append}
 use Rattle.std.proofs.lemmas.List.Elements.{filter-append}
 use Rattle.uss_event.specs.declared.entries.Entry.{Entry}
 use Rattle.uss_event.specs.declared.entries.Entry.TheVariants as Enters
@@ -14,15 +13,11 @@ use Rattle.uss_law_book.specs.Lists.{Trial, trials}
 use Rattle.uss_law_book.specs.Readings.{trials_of}
 use Rattle.uss_law_book.specs.Coding.{record_length}
 use Rattle.uss_law_book.proofs.Entries.{trials_append}
+use Rattle.uss_law_book.proofs.Bytes.{bytes_grow}
 use Rattle.uss_legal.specs.Speaks.{job_of}
 use Rattle.uss_entries.specs.declared.tally.Tally.{Tally}
-use Rattle.uss_entries.specs.Tallies.{is_later_of, bytes_of, IsTally, AreTallies}
-
-pub bytes_grow : (job : ℕ) (es : List Entry) (e : Entry) → bytes_of job (es ++ e ∷ []) ≡ bytes_of job es + sum_by record_length (filter (is_later_of job) (e ∷ []))
-unfolding bytes_of
-bytes_grow job es e =
-    ap (λ (l : List Entry). sum_by record_length l) (filter-append (is_later_of job) es (e ∷ []))
-    ∙ sum_by-append record_length (filter (is_later_of job) es) (filter (is_later_of job) (e ∷ []))
+use Rattle.uss_law_book.specs.Changes.{is_later_of, bytes_of}
+use Rattle.uss_entries.specs.Tallies.{IsTally, AreTallies}
 
 pub attempts_grow : (job : ℕ) (es : List Entry) (e : Entry) → length (trials_of job (es ++ e ∷ [])) ≡ length (trials_of job es) + length (trials_of job (e ∷ []))
 unfolding trials_of

@@ -5,16 +5,10 @@ use Rattle.uss_event.specs.declared.entries.Entry.{Entry}
 use Rattle.uss_law_book.specs.Coding.{journal_length}
 use Rattle.uss_law_book.specs.Reserve.{need, settled, reserved, ReserveCovers}
 use Rattle.uss_law_book.specs.Legal.{IsDue, MayFollow, IsLegal}
-use Rattle.uss_entries.specs.Reserve.{settled_by, taken, released}
+use Rattle.uss_law_book.specs.Changes.{settled_by, taken, released}
 use Rattle.uss_law_dss.proofs.Tests.{le_test}
-use Rattle.uss_entries.proofs.Opens.{each_legal}
-use Rattle.uss_entries.proofs.Needed.{need_grows}
-use Rattle.uss_entries.proofs.Settled.{settled_grows}
-
--- a legal book is covered
-pub covered : (es : List Entry) → IsLegal es → ReserveCovers es
-unfolding reserved need journal_length
-covered es l = each_legal ReserveCovers (omega arith) (λ book e h m was. m.room_after) es l
+use Rattle.uss_law_book.proofs.Needed.{need_grows}
+use Rattle.uss_law_book.proofs.Settled.{settled_grows}
 
 pub need_fits : (es : List Entry) (e : Entry) → MayFollow es e → need es ≤ 536870912
 unfolding reserved

@@ -19,7 +19,7 @@ use Rattle.uss_legal.specs.Speaks.{opening_in, holding_in}
 use Rattle.uss_entries.specs.declared.flight.Flight.{Flight}
 use Rattle.uss_entries.specs.Flights.{IsIn, last_in, recorded_in, IsFlight, AreFlights, flight_in, flight_after}
 use Rattle.uss_entries.proofs.Places.{got_left, got_last, longer, last_is_in}
-use Rattle.uss_entries.proofs.Grown.{last_else, last_new, last_holding_else, last_holding_new, ended_else, ended_new, job_of_old}
+use Rattle.uss_law_book.proofs.Grown.{last_else, last_new, last_holding_else, last_holding_new, ended_else, ended_new, job_of_old}
 
 pub in_stays : {X : Type 0} (es : List Entry) (e : Entry) (read : Entry → Option X) (w : Option ℕ) (o p : Option X) → p ≡ o → IsIn es read w o → IsIn (es ++ e ∷ []) read w p
 in_stays es e read None o p q h = q ∙ h

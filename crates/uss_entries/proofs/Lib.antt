@@ -1,16 +1,11 @@
 pub mod Places
 pub mod Marked
 pub mod Counted
-pub mod Grown
 pub mod Flown
 pub mod InTurn
 pub mod Numbered
 pub mod Told
 pub mod Opens
-pub mod Still
-pub mod Sums
-pub mod Needed
-pub mod Settled
 pub mod Fits
 pub mod Unanswered
 pub mod Lasting

@@ -2,10 +2,9 @@
 use Rattle.std.proofs.Common.{ℕ, ◌<◌, Bool, true, false, List, [], ◌∷◌, ◌++◌, ◌≡◌, length, length-append, refl, sym, subst, ◌∙◌, arith, Option, Some, None, slice_get, zero, suc}
 use Rattle.std.specs.List.{find}
 use Rattle.std.specs.Prelude.{Result, Ok, Err, OnOk, OnErr}
-use Rattle.std.specs.Option.{option_or}
 use Rattle.std.proofs.lemmas.List.Folds.{find-append}
 use Rattle.uss_event.specs.declared.entries.Entry.{Entry}
-use Rattle.uss_law_book.proofs.Finds.{find_kept}
+use Rattle.uss_law_book.proofs.Finds.{find_kept, or_none}
 use Rattle.uss_entries.specs.Firsts.{IsAt}
 
 pub got_left : {X : Type 0} (xs ys : List X) (n : ℕ) → n < length xs → slice_get (xs ++ ys) n ≡ slice_get xs n
@@ -21,10 +20,6 @@ pub got_some : {X : Type 0} (xs : List X) (n : ℕ) → n < length xs → (x : X
 got_some [] n h = absurd (omega arith)
 got_some (x ∷ xs) zero h = (x, refl)
 got_some (x ∷ xs) (suc n) h = got_some xs n (omega arith)
-
-pub or_none : {X : Type 0} (o : Option X) → option_or o None ≡ o
-or_none None = refl
-or_none (Some x) = refl
 
 pub longer : {X : Type 0} (xs : List X) (y : X) (n : ℕ) → n < length xs → n < length (xs ++ y ∷ [])
 longer xs y n h = let g = length-append xs (y ∷ []) in omega (arith, g, h)

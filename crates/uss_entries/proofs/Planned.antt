@@ -22,7 +22,7 @@ use Rattle.uss_law_book.proofs.Entries.{which_opening}
 use Rattle.uss_law_book.proofs.Kept.{opening_has}
 use Rattle.uss_entries.specs.declared.tried.Tried.{Tried}
 use Rattle.uss_entries.specs.Records.{IsPlan, ArePlanned, pair_by_proposal, pair_by_wish, pair_by_ask, ask_of, tried_of, pair_by_tried}
-use Rattle.uss_entries.proofs.Opens.{each_legal}
+use Rattle.uss_law_book.proofs.EachLegal.{each_legal}
 use Rattle.uss_entries.proofs.Lasting.{lasting_is_pair}
 
 -- ---- what was asked is a plan

@@ -22,7 +22,7 @@ use Rattle.uss_law_book.proofs.EachOrderly.{owned}
 use Rattle.uss_law_book.proofs.Kept.{open_parts}
 use Rattle.uss_entries.specs.Flights.{flight_in}
 use Rattle.uss_entries.specs.Records.{AreRecords, pair_in, pair_for}
-use Rattle.uss_entries.proofs.Grown.{last_holding_else, last_holding_new, job_of_old}
+use Rattle.uss_law_book.proofs.Grown.{last_holding_else, last_holding_new, job_of_old}
 
 -- a flight with room isn't missing
 pub not_missing : {X : Type 0} (w : Option X) → is_some w ≡ true → w ≡ None → ⊥

@@ -15,14 +15,6 @@ use Rattle.uss_legal.specs.Speaks.{speaks_of}
 use Rattle.uss_entries.specs.Told.{is_by_job}
 use Rattle.uss_entries.proofs.Places.{got_some}
 
-pub any_found : {X : Type 0} (p : X → Bool) (xs : List X) → is_some (find p xs) ≡ list_any p xs
-any_found p [] = refl
-any_found {X} p (x ∷ xs) = go (p x) (any_found p xs)
-  where
-    go : (b : Bool) → is_some (find p xs) ≡ list_any p xs → is_some (cond b (Some x) (find p xs)) ≡ (b || list_any p xs)
-    go true h = refl
-    go false h = h
-
 -- what a place says
 pub said_in : {X : Type 0} (es : List Entry) (read : Entry → Option X) (w : Option ℕ) (o : Option X) → IsIn es read w o → option_and_then read (option_and_then (slice_get es) w) ≡ o
 said_in es read None o h = sym h

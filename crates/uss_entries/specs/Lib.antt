@@ -10,4 +10,3 @@ pub mod Index
 pub mod Known
 pub mod Kept
 pub mod Told
-pub mod Reserve

@@ -8,7 +8,7 @@ ghost use Rattle.uss_law_book.specs.Reserve.{need, settled, ReserveCovers};
 ghost use Rattle.uss_entries.specs.Marks.{has_mark};
 ghost use Rattle.uss_entries.specs.Firsts.{AreFirsts};
 ghost use Rattle.uss_entries.specs.Index.{IsIndex};
-ghost use Rattle.uss_entries.specs.Reserve.{for_ticket, taken, released, settled_by};
+ghost use Rattle.uss_law_book.specs.Changes.{for_ticket, taken, released, settled_by};
 
 use crate::firsts::Firsts;
 use crate::index::Index;

@@ -6,7 +6,8 @@ ghost use Rattle.uss_law_book.specs.Coding.{HasCoding, record_length};
 ghost use Rattle.uss_law_book.specs.Lists.{trials};
 ghost use Rattle.uss_law_book.specs.Readings.{trials_of};
 ghost use Rattle.uss_legal.specs.Speaks.{job_of, is_of};
-ghost use Rattle.uss_entries.specs.Tallies.{AreTallies, has_tally, bytes_of, is_later_of, CanGrow};
+ghost use Rattle.uss_law_book.specs.Changes.{bytes_of, is_later_of};
+ghost use Rattle.uss_entries.specs.Tallies.{AreTallies, has_tally, CanGrow};
 
 use crate::tally::Tally;
 use std::alloc::{AllocError, Global};

@@ -32,7 +32,7 @@ use Rattle.uss_law_dss.specs.Fits.{fits}
 use Rattle.uss_law_dss.proofs.Lists.{find_has}
 use Rattle.uss_law_dss.proofs.Tests.{equal_number, left_false, both, not_true, not_both, less_is, some_same}
 use Rattle.uss_law_book.specs.Lists.{Opening, Trial, Closing, trials}
-use Rattle.uss_law_book.specs.Readings.{is_held, is_done, is_closed, trials_of, decision_of, base_of}
+use Rattle.uss_law_book.specs.Readings.{is_held, is_done, is_closed, trials_of, decision_of, base_of, rounds_of}
 use Rattle.uss_law_book.proofs.Entries.{opening_kept, closed_by_either}
 use Rattle.uss_law_duty.specs.Answers.{flight_of}
 use Rattle.uss_law_duty.specs.Sayings.{others}
@@ -45,8 +45,8 @@ use Rattle.uss_law_supplier.specs.Table.{next_or_choice, on_found, on_got, on_he
 use Rattle.uss_law_supplier.specs.Calls.{kind_of_ask}
 use Rattle.uss_law_supplier.specs.Turns.{Standing, entering}
 use Rattle.uss_law_supplier.specs.Airspace.{is_own, is_unheard, next_unheard, is_left, choice_of, pairs_in, key_of}
-use Rattle.uss_law_supplier.specs.Jobs.{keeps_key, rounds_of, view_of, heard_of_dss, heard_of_peer, owns_tag, asking, pending, attempting, holding_as, deciding, giving_up_after, giving_up, ending_as, closing, looking_at, blocked_by, choosing_by, choosing, carry_out, carry_out_peer}
-use Rattle.uss_law_supplier.proofs.Others.{trials_either}
+use Rattle.uss_law_supplier.specs.Jobs.{keeps_key, view_of, heard_of_dss, heard_of_peer, owns_tag, asking, pending, attempting, holding_as, deciding, giving_up_after, giving_up, ending_as, closing, looking_at, blocked_by, choosing_by, choosing, carry_out, carry_out_peer}
+use Rattle.uss_law_book.proofs.Others.{trials_either}
 use Rattle.uss_law_supplier.proofs.Waits.{round_own, awaiting_own, awaiting_round}
 use Rattle.uss_law_supplier.proofs.Onward.{IsOpenJob}
 use Rattle.uss_law_asking.proofs.Budget.{cost, cost_up, left, Suffices, Allows, IsWithin, asks, asks_after}

@@ -21,7 +21,7 @@ use Rattle.uss_event.specs.declared.calls.Outgoing.TheVariants as Goes
 use Rattle.uss_event.specs.declared.events.Event.TheVariants as Comes
 use Rattle.uss_law_dss.proofs.Tests.{equal_number, same_number, left_false, not_both, not_less, less_is, some_same}
 use Rattle.uss_law_book.specs.Lists.{Opening, openings}
-use Rattle.uss_law_book.specs.Readings.{is_put, opening_of, open_job_of, last_of, is_closed, is_ticket_open, decision_of, trials_of}
+use Rattle.uss_law_book.specs.Readings.{is_put, opening_of, open_job_of, last_of, is_closed, is_ticket_open, decision_of, trials_of, rounds_of}
 use Rattle.uss_law_book.specs.Orderly.{IsOrderly}
 use Rattle.uss_law_book.proofs.Entries.{openings_append, closed_by_either}
 use Rattle.uss_law_book.proofs.Kept.{opening_has}
@@ -35,14 +35,14 @@ use Rattle.uss_law_supplier.specs.Values.{awaited_of, round_of}
 use Rattle.uss_law_supplier.specs.Table.{with_ticket}
 use Rattle.uss_law_supplier.specs.Calls.{kind_of_call}
 use Rattle.uss_law_supplier.specs.Turns.{Standing, Turn, entered, entering, with_entry}
-use Rattle.uss_law_supplier.specs.Jobs.{is_end, keeps_key, rounds_of, view_of, asking, carry_on, going_on, resuming_by, resuming}
+use Rattle.uss_law_supplier.specs.Jobs.{is_end, keeps_key, view_of, asking, carry_on, going_on, resuming_by, resuming}
 use Rattle.uss_law_supplier.specs.Asks.{plan_refusal, new_refusal, opening_entry, opening_for, new_by, asked_anew, asked_for, repeated_by, repeated, asked_after, asked_with, asked, refusing}
 use Rattle.uss_law_supplier.specs.Laws.{IsSound}
 use Rattle.uss_law_supplier.specs.Fitting.{IsPhase, IsAwaited, IsFit}
-use Rattle.uss_law_supplier.proofs.Known.{IsFirm, Known, legal_known, tried_ticketed}
+use Rattle.uss_law_book.proofs.Known.{IsFirm, Known, legal_known, tried_ticketed}
 use Rattle.uss_law_supplier.proofs.Onward.{IsOpenJob}
 use Rattle.uss_law_supplier.proofs.Asking.{last_is, none_of_new, new_unclosed, new_untried, new_unticketed, new_undecided, opened_leaves_open, same_trials, same_ticket, first_kind, first_duty, are_plans}
-use Rattle.uss_law_supplier.proofs.Entering.{decision_stays}
+use Rattle.uss_law_book.proofs.Still.{decision_still}
 use Rattle.uss_law_asking.specs.Exchange.{Exchanged, turn_of, stands_then, IsBegun, calls_made, AllFit, most_found, found_before, CallsAreBounded}
 use Rattle.uss_law_asking.proofs.Budget.{cost, cost_up, left, Allows, IsWaiting, IsWithin, asks, asks_after}
 use Rattle.uss_law_asking.proofs.Acts.{first_round, attempts, gap}
@@ -179,7 +179,7 @@ pub new_duty : (s : Standing) (at : ℤ) (ask : FlightAsk) → IsOrderly s.book 
 new_duty s at ask orderly known =
     let o = opening_for s at ask in
     let e = opening_entry s.book at ask in
-    first_duty (entered s e) o (decision_stays o.job s.book e refl ∙ new_undecided s.book o.job orderly known refl) (same_trials o.job s.book at ask ∙ new_untried s.book o.job orderly refl)
+    first_duty (entered s e) o (decision_still o.job s.book e refl ∙ new_undecided s.book o.job orderly known refl) (same_trials o.job s.book at ask ∙ new_untried s.book o.job orderly refl)
     (same_ticket o.job s.book at ask ∙ new_unticketed s.book o.job orderly known refl)
 
 pub opens : (n : ℕ) (s : Standing) (at : ℤ) (ask : FlightAsk) → IsOrderly s.book → Known s.book → plan_refusal ask.wish ≡ None

@@ -20,7 +20,7 @@ use Rattle.uss_law_dss.specs.Fits.{fits}
 use Rattle.uss_law_dss.proofs.Lists.{length-filter_le}
 use Rattle.uss_law_dss.proofs.Tests.{equal_number, equal_bytes, and_true, some_same}
 use Rattle.uss_law_book.specs.Lists.{Opening}
-use Rattle.uss_law_book.specs.Readings.{opening_of, trials_of}
+use Rattle.uss_law_book.specs.Readings.{opening_of, trials_of, rounds_of}
 use Rattle.uss_law_duty.specs.Answers.{flight_of, job_of_call}
 use Rattle.uss_law_duty.specs.Sayings.{others}
 use Rattle.uss_law_supplier.specs.declared.duties.Awaited.{Awaited}
@@ -29,7 +29,7 @@ use Rattle.uss_law_supplier.specs.Values.{Round, awaited_of, round_of, round_wit
 use Rattle.uss_law_supplier.specs.Table.{when_awaited}
 use Rattle.uss_law_supplier.specs.Calls.{kind_of, is_it}
 use Rattle.uss_law_supplier.specs.Turns.{Standing, Turn}
-use Rattle.uss_law_supplier.specs.Jobs.{rounds_of, view_of, heard_of_dss, heard_of_peer, found_by, round_by_dss, round_by_peer, with_values, carry_out, carry_out_peer, acting_on_dss, acting_on_peer, open_by_dss, open_by_peer}
+use Rattle.uss_law_supplier.specs.Jobs.{view_of, heard_of_dss, heard_of_peer, found_by, round_by_dss, round_by_peer, with_values, carry_out, carry_out_peer, acting_on_dss, acting_on_peer, open_by_dss, open_by_peer}
 use Rattle.uss_law_supplier.specs.Replies.{of_job_by_dss, of_job_by_peer, replied_to, replied_to_peer, hearing_it}
 use Rattle.uss_law_supplier.proofs.Waits.{round_own, round_awaited}
 use Rattle.uss_law_asking.specs.Exchange.{Exchanged, call_in, event_in, turn_of, stands_then, IsBegun, calls_made, AllFit, most_found}

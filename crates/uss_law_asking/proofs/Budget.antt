@@ -8,14 +8,14 @@ use Rattle.uss_event.specs.declared.entries.Entry.{Entry}
 use Rattle.uss_event.specs.declared.calls.Outgoing.{Outgoing}
 use Rattle.uss_event.specs.declared.calls.Outgoing.TheVariants as Goes
 use Rattle.uss_law_book.specs.Lists.{Opening}
-use Rattle.uss_law_book.specs.Readings.{trials_of}
+use Rattle.uss_law_book.specs.Readings.{trials_of, rounds_of}
 use Rattle.uss_law_duty.specs.Answers.{job_of_call}
 use Rattle.uss_law_supplier.specs.declared.duties.Awaited.{Awaited}
 use Rattle.uss_law_supplier.specs.declared.duties.Awaited.TheVariants as Waits
 use Rattle.uss_law_supplier.specs.Values.{Round, awaited_of, round_of}
 use Rattle.uss_law_supplier.specs.Calls.{call_of, kind_of}
 use Rattle.uss_law_supplier.specs.Turns.{Standing, Turn, dss_call, entered, entering}
-use Rattle.uss_law_supplier.specs.Jobs.{rounds_of, making, asking}
+use Rattle.uss_law_supplier.specs.Jobs.{making, asking}
 use Rattle.uss_law_supplier.proofs.Waits.{awaiting_own, awaiting_round}
 use Rattle.uss_law_supplier.proofs.Onward.{IsOpenJob, kind_is}
 use Rattle.uss_law_asking.specs.Exchange.{stands_then}

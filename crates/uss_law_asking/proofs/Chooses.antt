@@ -46,7 +46,7 @@ use Rattle.uss_law_supplier.specs.Airspace.{is_own, flight_found, held_as, ovn_o
 use Rattle.uss_law_supplier.specs.Jobs.{with_values, ending, giving_up_after, blocked_by, choosing_by, choosing}
 use Rattle.uss_law_supplier.specs.Asks.{plan_refusal, opening_entry, opening_for}
 use Rattle.uss_law_supplier.specs.Laws.{IsSound}
-use Rattle.uss_law_supplier.proofs.Known.{same_holding}
+use Rattle.uss_law_book.proofs.Known.{same_holding}
 use Rattle.uss_law_supplier.proofs.Asking.{are_plans}
 use Rattle.uss_law_supplier.proofs.Choosing.{chosen_is_free, blocked_is_by, key_is_short}
 use Rattle.uss_law_asking.specs.Exchange.{turn_of}

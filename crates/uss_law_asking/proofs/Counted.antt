@@ -10,11 +10,10 @@ use Rattle.uss_event.specs.declared.events.Event.{Event}
 use Rattle.uss_event.specs.declared.events.Event.TheVariants as Comes
 use Rattle.uss_law_dss.proofs.Tests.{some_same}
 use Rattle.uss_law_book.specs.Lists.{Opening}
-use Rattle.uss_law_book.specs.Readings.{open_job_of}
+use Rattle.uss_law_book.specs.Readings.{open_job_of, rounds_of}
 use Rattle.uss_law_duty.specs.Duties.{clamped}
 use Rattle.uss_law_duty.specs.Answers.{job_named}
 use Rattle.uss_law_supplier.specs.Turns.{Standing, Turn}
-use Rattle.uss_law_supplier.specs.Jobs.{rounds_of}
 use Rattle.uss_law_supplier.specs.Asks.{refusing}
 use Rattle.uss_law_supplier.specs.Laws.{IsSound}
 use Rattle.uss_law_asking.specs.Exchange.{Exchanged, is_operators, call_in, event_in, turn_of, stands_then, stands_after, IsBegun, calls_made, AllFit, most_found, found_before, call_bound, CallsAreBounded, CallsOfJobsAreBounded}

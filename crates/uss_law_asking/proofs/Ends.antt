@@ -43,7 +43,7 @@ use Rattle.uss_law_supplier.specs.Turns.{Standing, Turn, said_of, dss_call, call
 use Rattle.uss_law_supplier.specs.Jobs.{is_end, making, asking, closing, ending}
 use Rattle.uss_law_supplier.specs.Asks.{begins_flight, busy, ended, unknown, new_refusal, opening_entry, opening_for}
 use Rattle.uss_law_supplier.specs.Laws.{IsSound}
-use Rattle.uss_law_supplier.proofs.Known.{legal_known, same_holding}
+use Rattle.uss_law_book.proofs.Known.{legal_known, same_holding}
 use Rattle.uss_law_supplier.proofs.Waits.{awaiting_own}
 use Rattle.uss_law_supplier.proofs.Onward.{IsOpenJob}
 use Rattle.uss_law_supplier.proofs.Asking.{first_kind, parts_none}

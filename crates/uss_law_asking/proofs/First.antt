@@ -29,7 +29,7 @@ use Rattle.uss_law_dss.proofs.Tests.{equal_number, same_number, other_number, bo
 use Rattle.uss_law_book.specs.Lists.{Opening, Holding, Closing, openings, holdings, endings}
 use Rattle.uss_law_book.specs.Legal.{IsAfter}
 use Rattle.uss_law_book.specs.Orderly.{IsOrderly}
-use Rattle.uss_law_book.specs.Readings.{opening_of, jobs_of, open_job_of, last_of, is_closed, decision_of, holding_of, ending_of}
+use Rattle.uss_law_book.specs.Readings.{opening_of, jobs_of, open_job_of, last_of, is_closed, decision_of, holding_of, ending_of, rounds_of}
 use Rattle.uss_law_book.specs.Attempts.{held}
 use Rattle.uss_law_book.proofs.Entries.{openings_append}
 use Rattle.uss_law_book.proofs.Held.{opening_is_found, open_job_is_found}
@@ -43,13 +43,13 @@ use Rattle.uss_law_supplier.specs.Table.{by_book}
 use Rattle.uss_law_supplier.specs.Monitor.{Sighting, later_position}
 use Rattle.uss_law_supplier.specs.Values.{Values, awaited_of, round_of, progress_of, sightings_of, counting}
 use Rattle.uss_law_supplier.specs.Turns.{Standing, Turn, entered, entering, with_entry, said_of}
-use Rattle.uss_law_supplier.specs.Jobs.{is_end, rounds_of, view_of, carry_on, going_on, resuming_by, resuming, giving_up}
+use Rattle.uss_law_supplier.specs.Jobs.{is_end, view_of, carry_on, going_on, resuming_by, resuming, giving_up}
 use Rattle.uss_law_supplier.specs.Asks.{first_some, plan_refusal, new_refusal, opening_entry, opening_for, refusing, new_by, asked_anew, answered_again, asked_for, repeated_by, repeated, asked_after, asked_with, asked}
 use Rattle.uss_law_supplier.specs.Cancels.{cancelled_open, cancelled_job, cancelled_after, cancelled}
 use Rattle.uss_law_supplier.specs.Positions.{sighting_of, found_with, is_refused, counted_unless, counted_with, acting_as, judged_as, judged, judged_unless, wished, is_numbered, positioned_for, positioned_with, positioned}
 use Rattle.uss_law_supplier.specs.Step.{stepped}
 use Rattle.uss_law_supplier.specs.Laws.{IsSound}
-use Rattle.uss_law_supplier.proofs.Known.{Known, legal_known}
+use Rattle.uss_law_book.proofs.Known.{Known, legal_known}
 use Rattle.uss_law_supplier.proofs.Jobs.{still_named}
 use Rattle.uss_law_supplier.proofs.Onward.{IsOpenJob}
 use Rattle.uss_law_supplier.proofs.Asking.{last_is, request_found, IsAbout, first_kind}

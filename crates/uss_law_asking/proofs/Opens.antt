@@ -61,8 +61,8 @@ use Rattle.uss_law_supplier.specs.Jobs.{is_end, asking}
 use Rattle.uss_law_supplier.specs.Asks.{plan_refusal, opening_entry, opening_for}
 use Rattle.uss_law_supplier.specs.Laws.{IsSound}
 use Rattle.uss_law_supplier.proofs.Law.{sound_of}
-use Rattle.uss_law_supplier.proofs.Counts.{few_jobs, few_trials}
-use Rattle.uss_law_supplier.proofs.Known.{legal_known}
+use Rattle.uss_law_book.proofs.Counts.{few_jobs, few_trials}
+use Rattle.uss_law_book.proofs.Known.{legal_known}
 use Rattle.uss_law_supplier.proofs.Waits.{awaiting_own}
 use Rattle.uss_law_supplier.proofs.Onward.{IsOpenJob}
 use Rattle.uss_law_supplier.proofs.Asking as Asking

@@ -27,7 +27,7 @@ use Rattle.uss_law_dss.specs.Lists.{Has}
 use Rattle.uss_law_dss.specs.Fits.{fits}
 use Rattle.uss_law_dss.proofs.Tests.{and_true, left_true, some_same}
 use Rattle.uss_law_book.specs.Lists.{Opening, Trial, trials}
-use Rattle.uss_law_book.specs.Readings.{opening_of, open_job_of, is_closed, owns}
+use Rattle.uss_law_book.specs.Readings.{opening_of, open_job_of, is_closed, owns, rounds_of}
 use Rattle.uss_law_book.proofs.Entries.{trials_append}
 use Rattle.uss_law_duty.specs.Duties.{book_after, says_something, clamped}
 use Rattle.uss_law_duty.specs.Answers.{kept_answer, job_named, job_of_call}
@@ -38,7 +38,7 @@ use Rattle.uss_law_supplier.specs.Values.{awaited_of, round_of, progress_of}
 use Rattle.uss_law_supplier.specs.Table.{on_heard, when_awaited}
 use Rattle.uss_law_supplier.specs.Calls.{kind_of, is_it}
 use Rattle.uss_law_supplier.specs.Turns.{Standing, Turn, dss_call, said_of}
-use Rattle.uss_law_supplier.specs.Jobs.{rounds_of, view_of, heard_of_dss, heard_of_peer, owns_tag, round_by_dss, round_by_peer, with_values, carry_out, carry_out_peer, open_by_peer}
+use Rattle.uss_law_supplier.specs.Jobs.{view_of, heard_of_dss, heard_of_peer, owns_tag, round_by_dss, round_by_peer, with_values, carry_out, carry_out_peer, open_by_peer}
 use Rattle.uss_law_supplier.specs.Replies.{of_job_by_peer, replied_to_peer, hearing_it}
 use Rattle.uss_law_supplier.specs.Asks.{refusing}
 use Rattle.uss_law_supplier.specs.Laws.{IsSound}

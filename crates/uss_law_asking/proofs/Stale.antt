@@ -41,7 +41,7 @@ use Rattle.uss_law_supplier.specs.Jobs.{keeps_key, rounds_of, round_by_dss, with
 use Rattle.uss_law_supplier.specs.Typed.{IsEvent}
 use Rattle.uss_law_supplier.specs.Fitting.{IsPhase}
 use Rattle.uss_law_supplier.specs.Laws.{LegalBooksKeepRoom, IsSound}
-use Rattle.uss_law_supplier.proofs.Others.{decisions_append}
+use Rattle.uss_law_book.proofs.Others.{decisions_append}
 use Rattle.uss_law_asking.specs.Exchange.{Exchanged, call_in, event_in, turn_of, stands_then, stands_after, IsBegun, last_turn, AllFit, AllTyped, most_found, found_before}
 use Rattle.uss_law_asking.specs.Exchange.Exchanged.{OfDss, OfPeer}
 use Rattle.uss_law_asking.specs.Causes.{IsCarriedOut, outcome, book_then, missing_in, missing_last, NamesTheMissing, StaleNamesTheMissing}

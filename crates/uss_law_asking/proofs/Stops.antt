@@ -37,7 +37,7 @@ use Rattle.uss_plan.specs.declared.choice.Choice.TheVariants.{Chosen, Blocked}
 use Rattle.uss_law_dss.specs.Fits.{fits}
 use Rattle.uss_law_dss.proofs.Tests.{some_same}
 use Rattle.uss_law_book.specs.Lists.{Opening, Trial, Holding, Closing, holdings, endings}
-use Rattle.uss_law_book.specs.Readings.{is_closed, trials_of, decision_of, holding_of, ending_of}
+use Rattle.uss_law_book.specs.Readings.{is_closed, trials_of, decision_of, holding_of, ending_of, rounds_of}
 use Rattle.uss_law_book.proofs.Entries.{holdings_append, endings_append}
 use Rattle.uss_law_duty.specs.Duties.{book_after}
 use Rattle.uss_law_duty.specs.Answers.{flight_of, kept_answer}
@@ -51,7 +51,7 @@ use Rattle.uss_law_supplier.specs.Table.{next_or_choice, on_found, on_got, on_pu
 use Rattle.uss_law_supplier.specs.Calls.{call_of, kind_of_ask}
 use Rattle.uss_law_supplier.specs.Turns.{Standing, Turn, said_of, entered, entering}
 use Rattle.uss_law_supplier.specs.Airspace.{next_unheard, is_left, choice_of, pairs_in, key_of}
-use Rattle.uss_law_supplier.specs.Jobs.{keeps_key, rounds_of, view_of, heard_of_dss, heard_of_peer, owns_tag, asking, pending, attempting, holding_as, deciding, giving_up_after, giving_up, ending, ending_as, closing, looking_at, looking, blocked_by, choosing_by, choosing, call_made, carry_on, carry_out, carry_out_peer}
+use Rattle.uss_law_supplier.specs.Jobs.{keeps_key, view_of, heard_of_dss, heard_of_peer, owns_tag, asking, pending, attempting, holding_as, deciding, giving_up_after, giving_up, ending, ending_as, closing, looking_at, looking, blocked_by, choosing_by, choosing, call_made, carry_on, carry_out, carry_out_peer}
 use Rattle.uss_law_supplier.proofs.Jobs.{made_silently}
 use Rattle.uss_law_supplier.proofs.Onward.{IsOpenJob}
 use Rattle.uss_law_asking.specs.Exchange.{Exchanged}

@@ -45,7 +45,7 @@ use Rattle.uss_law_supplier.specs.Values.{Values, awaited_of}
 use Rattle.uss_law_supplier.specs.Calls.{last_trial, last_attempt}
 use Rattle.uss_law_supplier.specs.Turns.{Standing, Turn, said_of, dss_call, calling, with_entry}
 use Rattle.uss_law_supplier.specs.Jobs.{with_values, making, pending, attempting, holding_as, recording}
-use Rattle.uss_law_supplier.proofs.Others.{trials_either}
+use Rattle.uss_law_book.proofs.Others.{trials_either}
 use Rattle.uss_law_supplier.proofs.Waits.{awaiting_own}
 use Rattle.uss_law_supplier.proofs.Onward.{IsOpenJob}
 use Rattle.uss_law_asking.specs.Exchange.{turn_of, stands_then}

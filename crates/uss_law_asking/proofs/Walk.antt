@@ -33,7 +33,7 @@ use Rattle.uss_law_supplier.specs.Jobs.{is_end, view_of, heard_of_dss, round_by_
 use Rattle.uss_law_supplier.specs.Replies.{of_job_by_dss, of_job_by_peer, replied_to, replied_to_peer}
 use Rattle.uss_law_supplier.specs.Asks.{plan_refusal, new_refusal, opening_entry, opening_for, new_by, asked_anew, asked_after, asked_with}
 use Rattle.uss_law_supplier.specs.Laws.{IsSound}
-use Rattle.uss_law_supplier.proofs.Known.{Known}
+use Rattle.uss_law_book.proofs.Known.{Known}
 use Rattle.uss_law_supplier.proofs.Onward.{IsOpenJob}
 use Rattle.uss_law_supplier.proofs.Asking.{first_kind}
 use Rattle.uss_law_asking.specs.Exchange.{Exchanged, turn_of, stands_then, IsExchange, last_turn}

@@ -14,12 +14,12 @@ use Rattle.uss_event.specs.declared.events.Event.{Event}
 use Rattle.uss_event.specs.declared.events.Event.TheVariants as Comes
 use Rattle.uss_law_dss.specs.Fits.{fits}
 use Rattle.uss_law_book.specs.Lists.{Opening}
-use Rattle.uss_law_book.specs.Readings.{open_job_of}
+use Rattle.uss_law_book.specs.Readings.{open_job_of, rounds_of}
 use Rattle.uss_law_duty.specs.Duties.{book_after, says_something, clamped}
 use Rattle.uss_law_duty.specs.Answers.{job_named}
 use Rattle.uss_law_supplier.specs.Values.{Values, round_of}
 use Rattle.uss_law_supplier.specs.Turns.{Standing, Turn}
-use Rattle.uss_law_supplier.specs.Jobs.{found_by, rounds_of}
+use Rattle.uss_law_supplier.specs.Jobs.{found_by}
 use Rattle.uss_law_supplier.specs.Step.{stepped}
 use Rattle.uss_law_supplier.specs.Typed.{IsEvent}
 use Rattle.uss_law_supplier.specs.Laws.{IsSound}

@@ -1,5 +1,5 @@
 -- What filters and look-ups find.
-use Rattle.std.proofs.Common.{◌≤◌, Bool, true, false, cond, ◌||◌, ◌&&◌, List, [], ◌∷◌, ◌++◌, ◌≡◌, ◌⊎◌, inl, inr, filter, length, refl, ap, sym, ◌∙◌, arith, Some}
+use Rattle.std.proofs.Common.{◌≤◌, Bool, true, false, cond, ◌||◌, ◌&&◌, List, [], ◌∷◌, ◌++◌, ◌≡◌, ◌⊎◌, inl, inr, filter, length, refl, ap, sym, ◌∙◌, arith, Option, Some, None, is_some}
 use Rattle.std.specs.List.{list_any, find}
 use Rattle.std.specs.Option.{option_or}
 use Rattle.std.proofs.lemmas.List.Folds.{find-append}
@@ -21,6 +21,14 @@ find_found {X} p (z ∷ xs) x h e = go (p z) refl h (find_found p xs x)
 
 pub find_kept : {X : Type 0} (p : X → Bool) (xs ys : List X) (x : X) → find p xs ≡ Some x → find p (xs ++ ys) ≡ Some x
 find_kept p xs ys x h = find-append p xs ys ∙ ap (λ o. option_or o (find p ys)) h
+
+pub any_found : {X : Type 0} (p : X → Bool) (xs : List X) → is_some (find p xs) ≡ list_any p xs
+any_found p [] = refl
+any_found {X} p (x ∷ xs) = go (p x) (any_found p xs)
+  where
+    go : (b : Bool) → is_some (find p xs) ≡ list_any p xs → is_some (cond b (Some x) (find p xs)) ≡ (b || list_any p xs)
+    go true h = refl
+    go false h = h
 
 -- tests that agree on the items
 pub any_agrees : {X : Type 0} (p q : X → Bool) (xs : List X) → ((x : X) → Has xs x → p x ≡ q x) → list_any p xs ≡ list_any q xs
@@ -44,3 +52,11 @@ halves true b c d = refl
 halves false true true d = refl
 halves false true false d = refl
 halves false false c d = refl
+
+pub or_false : (a : Bool) → (a || false) ≡ a
+or_false true = refl
+or_false false = refl
+
+pub or_none : {X : Type 0} (o : Option X) → option_or o None ≡ o
+or_none None = refl
+or_none (Some x) = refl

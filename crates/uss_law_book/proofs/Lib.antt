@@ -4,4 +4,17 @@ pub mod Greatest
 pub mod Kept
 pub mod Attempts
 pub mod EachOrderly
+pub mod EachLegal
 pub mod Held
+pub mod Grown
+pub mod Opens
+pub mod Others
+pub mod Still
+pub mod Sums
+pub mod Known
+pub mod Counts
+pub mod Needed
+pub mod Settled
+pub mod Lengths
+pub mod Bytes
+pub mod Room

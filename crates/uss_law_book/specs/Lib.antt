@@ -3,5 +3,7 @@ pub mod Readings
 pub mod Attempts
 pub mod Coding
 pub mod Reserve
+pub mod Changes
 pub mod Legal
+pub mod Room
 pub mod Orderly

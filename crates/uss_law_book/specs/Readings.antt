@@ -113,6 +113,11 @@ abbrev pub is_put : Wish → Bool
 is_put (Put to priority rounds proposals) = true
 is_put End = false
 
+-- how many attempts a job may make
+abbrev pub rounds_of : Wish → ℕ
+rounds_of (Put to priority rounds proposals) = rounds
+rounds_of End = 0
+
 abbrev pub puts : Option Opening → Bool
 puts None = false
 puts (Some o) = is_put o.ask.wish

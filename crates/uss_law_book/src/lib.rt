@@ -2,17 +2,20 @@
 //!
 //! `specs/Lists.antt` has what the entries say, `specs/Readings.antt` and `specs/Attempts.antt` what a book tells of jobs, flights,
 //! tickets and attempts, `specs/Coding.antt` which entries have a coding and how long it is, `specs/Reserve.antt` the room that a
-//! book keeps free, and `specs/Legal.antt` when a book is legal. The functions below do nothing: their contracts carry the laws.
+//! book keeps free, `specs/Changes.antt` how a further entry changes it, `specs/Legal.antt` when a book is legal, and `specs/Room.antt`
+//! what an entry has to keep to follow a legal book. The functions below do nothing: their contracts carry the laws.
 #![tactic(auto)]
 
-ghost use Rattle.std.specs.Prelude.{◌≡◌, ◌++◌, ◌∷◌, [], ℕ, List, Some, false};
+ghost use Rattle.std.specs.Prelude.{◌≡◌, ◌↔◌, ◌++◌, ◌∷◌, [], ℕ, List, Some, false};
 ghost use Rattle.std.specs.Option.{option_and_then};
 ghost use Rattle.uss_event.specs.declared.entries.Entry.{Entry};
 ghost use Rattle.uss_law_dss.specs.Lists.{Has};
 ghost use Rattle.uss_law_book.specs.Lists.{Opening, Trial, Holding, openings, trials};
 ghost use Rattle.uss_law_book.specs.Readings.{opening_of, trial_of, is_closed, open_job_of, holding, base_of};
 ghost use Rattle.uss_law_book.specs.Attempts.{Attempted, attempt_of, held};
+ghost use Rattle.uss_law_book.specs.Reserve.{ReserveCovers};
 ghost use Rattle.uss_law_book.specs.Legal.{IsLegal, MayFollow};
+ghost use Rattle.uss_law_book.specs.Room.{IsNext, LegalBooksKeepRoom};
 ghost use Rattle.uss_law_book.specs.Orderly.{IsOrderly, IsHeldOf};
 
 /// A book is legal where each of its entries may follow those before it: so every beginning of a legal book is legal, and a legal
@@ -55,4 +58,13 @@ pub fn attempts_of_a_job_have_one_previous()
 pub fn what_is_held_was_recorded()
     ensures held { (book : List Entry) (flight : ℕ) (h : Holding) → IsLegal book → holding flight book ≡ Some h → IsHeldOf book flight h }
     ensures base { (book : List Entry) (flight : ℕ) → IsLegal book → base_of flight book ≡ option_and_then (λ p. p.reference.ovn) (held flight book) }
+{}
+
+/// A legal book keeps its room. Once a job is open, each entry that is due and has its coding leaves the book with room for all that is
+/// open: what the job enters, to its end, has room within the 8 MiB that are kept free for it. So an entry may follow a legal book
+/// exactly where it is in its place, has its coding, is due, and, if it opens a job, leaves room for the job.
+pub fn legal_books_keep_room()
+    ensures covered { (book : List Entry) → IsLegal book → ReserveCovers book }
+    ensures room { LegalBooksKeepRoom }
+    ensures exact { (book : List Entry) (e : Entry) → IsLegal book → (MayFollow book e ↔ IsNext book e) }
 {}

@@ -27,7 +27,6 @@ use Rattle.uss_law_supplier.specs.Typed.{IsIntent, IsPeerReply}
 use Rattle.uss_law_supplier.specs.Laws.{IsSound, IsAllowed}
 use Rattle.uss_law_supplier.proofs.Law.{steps_keep_duties, steps_stay_sound, sound_of}
 use Rattle.uss_law_supplier.proofs.Coded.{held_pair_coded, owner_coded, job_coded}
-use Rattle.uss_law_room.proofs.Room.{legal_books_keep_room}
 use Rattle.uss_law_world.specs.World.{Supplier, Post, World, supplier_in, book_in, heard_in, book_of, heard_of, post_of}
 use Rattle.uss_law_world.specs.Moves.{Asker, Arrival, pair_reply, reply_by, answer_with, answer_to, posts_of, stepped, with_supplier, after_step, arrives}
 use Rattle.uss_law_world.specs.Free.{MayTake}
@@ -93,10 +92,10 @@ module _ (e : Exact) (f : IsFine e.world e.kept) (a : Arrival) (i : IsArrival e.
   before = f.sound s x is
 
   pub allowed : IsAllowed x.book (e.kept s) w.moment a.event t
-  allowed = steps_keep_duties x.owner x.book (e.kept s) w.moment a.event before.sound i.event (legal_books_keep_room x.book before.sound.legal)
+  allowed = steps_keep_duties x.owner x.book (e.kept s) w.moment a.event before.sound i.event
 
   pub sound_then : IsSound x.owner after t.values
-  sound_then = steps_stay_sound x.owner x.book (e.kept s) w.moment a.event before.sound i.event (legal_books_keep_room x.book before.sound.legal)
+  sound_then = steps_stay_sound x.owner x.book (e.kept s) w.moment a.event before.sound i.event
 
   pub may : MayStep (book_of s w) (heard_of s w) (clamped w.moment) a.event c.entry c.sends c.said c.heard
   may =

@@ -9,9 +9,9 @@ use Rattle.std.proofs.lemmas.List.Elements.{All-from_recursion}
 use Rattle.uss_vol4.specs.Volume.{Volume4D, InTime}
 use Rattle.uss_law_book.specs.Coding.{IsWish, journal_length, record_length}
 use Rattle.uss_law_book.specs.Reserve.{journal_limit, need}
-use Rattle.uss_law_supplier.specs.Laws.{IsSpared}
+use Rattle.uss_law_book.specs.Room.{IsSpared}
 use Rattle.uss_law_supplier.specs.Typed.{IsOfType, IsRequest}
-use Rattle.uss_law_supplier.proofs.Counts.{few_jobs}
+use Rattle.uss_law_book.proofs.Counts.{few_jobs}
 use Rattle.uss_intent.specs.declared.records.State.{State}
 use Rattle.uss_event.specs.Same.{differing}
 use Rattle.uss_event.specs.Plans.{is_plan}
@@ -57,14 +57,16 @@ use Rattle.uss_law_supplier.specs.Jobs.{is_end, view_of, asking, carry_on, going
 use Rattle.uss_law_supplier.specs.Asks.{first_some, proposal_refusal, proposals_refusal, plan_refusal, busy_by, busy, ended, begins_flight, unknown, wrong_way, wrong, past, too_far, opening_entry, full, new_refusal, refusing, opening_for, new_by, asked_anew, asked_for, repeated_by, repeated, asked_after, asked_with, asked}
 use Rattle.uss_law_supplier.specs.Cancels.{cancelled_open, cancelled_job, cancelled_after, cancelled}
 use Rattle.uss_law_supplier.specs.Fitting.{IsPhase}
-use Rattle.uss_law_supplier.proofs.Others.{trials_either, ticket_either}
-use Rattle.uss_law_supplier.proofs.Known.{Known, known_after, has_ticket, decided_ticketed}
+use Rattle.uss_law_book.proofs.Others.{trials_either, ticket_either}
+use Rattle.uss_law_book.proofs.Known.{Known, known_after, has_ticket, decided_ticketed}
 use Rattle.uss_law_supplier.proofs.Onward.{IsDue as Due}
 use Rattle.uss_law_supplier.proofs.Onward.{IsOpenJob}
 use Rattle.uss_law_supplier.proofs.Fits.{fit_others}
 use Rattle.uss_law_supplier.proofs.Good.{Sound, IsRoomy, IsOnward, IsGood, good_onward, good_entering, onward_asking, none_sent}
 use Rattle.uss_law_supplier.proofs.Jobs.{IsAt, follows, made_silently, silent_cause, good_again}
-use Rattle.uss_law_supplier.proofs.Entering.{another, decision_stays}
+use Rattle.uss_law_supplier.proofs.Entering.{another}
+use Rattle.uss_law_book.proofs.Still.{decision_still}
+use Rattle.uss_law_book.proofs.Room.{spared_beside_all}
 use Rattle.uss_law_supplier.proofs.Chosen.{good_giving_up}
 use Rattle.uss_law_supplier.proofs.Resuming.{not_end, is_an_end, good_resuming}
 
@@ -284,7 +286,7 @@ spared_of book moment ask h = go (nat_lt journal_limit (journal_length book + ne
     go : (b : Bool) → nat_lt journal_limit (journal_length book + need book + 8388608 + record_length (opening_entry book moment ask)) ≡ b
         → cond b (Some (Refuses.BookFull (journal_length book) (need book))) None ≡ None → IsSpared book (opening_entry book moment ask)
     go true q k = cc
-    go false q k = not_less journal_limit (journal_length book + need book + 8388608 + record_length (opening_entry book moment ask)) q
+    go false q k = spared_beside_all book (length (openings book) + 1) moment ask (not_less journal_limit (journal_length book + need book + 8388608 + record_length (opening_entry book moment ask)) q)
 
 -- a request that is a plan has a coding
 
@@ -337,7 +339,7 @@ good_opened s heard moment at event ask d typed time plan later none room =
     let unclosed : is_closed job book ≡ false = closed_by_either job s.book (e ∷ []) ∙ left_false (is_closed job s.book) (is_closed job (e ∷ [])) (new_unclosed s.book job d.orderly refl) (opened_leaves_open job at ask) in
     let unfinished : IsOpenJob book o = record { opened = opening_is_found book o orderly has; unclosed = unclosed } in
     let ticket : is_ticket_open job book ≡ false = same_ticket job s.book at ask ∙ new_unticketed s.book job d.orderly d.known refl in
-    let goes = first_duty (entered s e) o (decision_stays job s.book e refl ∙ new_undecided s.book job d.orderly d.known refl) (same_trials job s.book at ask ∙ new_untried s.book job d.orderly refl) ticket in
+    let goes = first_duty (entered s e) o (decision_still job s.book e refl ∙ new_undecided s.book job d.orderly d.known refl) (same_trials job s.book at ask ∙ new_untried s.book job d.orderly refl) ticket in
     let fit = fit_others s.owner s.book s.values e job d.orderly due (λ i n. another i job n) d.fit in
     let onward = onward_asking (entered s e) event o (first_kind (is_end ask.wish)) orderly known has unfinished (first_phase book o (is_end ask.wish) refl ticket) (first_not_details (is_end ask.wish)) fit in
     good_entering s heard moment event e (λ after. going_on after o) (record { follows = m; keys = tt; held = tt; removals = tt; tickets = tt })

@@ -25,7 +25,7 @@ use Rattle.uss_law_dss.specs.Lists.{Has}
 use Rattle.uss_law_dss.proofs.Lists.{has_left, has_append}
 use Rattle.uss_law_dss.proofs.Tests.{equal_number, unequal_number, both, not_both, some_same}
 use Rattle.uss_law_book.specs.Lists.{Opening, Trial, trials}
-use Rattle.uss_law_book.specs.Readings.{opening_of, is_put, is_ended, trial_of, trials_of, decision_of, base_of, is_ticket_open}
+use Rattle.uss_law_book.specs.Readings.{opening_of, is_put, is_ended, trial_of, trials_of, decision_of, base_of, is_ticket_open, rounds_of}
 use Rattle.uss_law_book.specs.Attempts.{Attempted, attempted, by_wish, attempt_of, held}
 use Rattle.uss_intent.specs.Texts.{IsOvn}
 use Rattle.uss_intent.specs.States.{is_strategic}
@@ -46,9 +46,9 @@ use Rattle.uss_law_supplier.specs.declared.duties.Awaited.TheVariants as Waits
 use Rattle.uss_law_supplier.specs.Values.{Round, round_of}
 use Rattle.uss_law_supplier.specs.Turns.{Standing}
 use Rattle.uss_law_supplier.specs.Airspace.{flight_found, held_as, is_own, pair_of, pairs_in, ovn_of, key_of, choice_of}
-use Rattle.uss_law_supplier.specs.Jobs.{rounds_of, keeps_key, pending, giving_up_after, giving_up, blocked_by, choosing_by, choosing}
+use Rattle.uss_law_supplier.specs.Jobs.{keeps_key, pending, giving_up_after, giving_up, blocked_by, choosing_by, choosing}
 use Rattle.uss_law_supplier.specs.Fitting.{IsPhase}
-use Rattle.uss_law_supplier.proofs.Known.{IsFirm}
+use Rattle.uss_law_book.proofs.Known.{IsFirm}
 use Rattle.uss_law_supplier.proofs.Good.{Sound, IsRoomy, IsGood}
 use Rattle.uss_law_supplier.specs.Typed.{IsIntent}
 use Rattle.uss_law_supplier.proofs.Coded.{all_from, held_pair_coded, decision_ends}

@@ -37,8 +37,8 @@ use Rattle.uss_law_supplier.specs.Turns.{Standing, entering}
 use Rattle.uss_law_book.specs.Readings.{is_ticket_due}
 use Rattle.uss_law_supplier.specs.Replies.{is_retired, takes_out, retires, is_told_now, saying_nothing, closed_by_dss, closed_by_peer}
 use Rattle.uss_law_supplier.specs.Fitting.{IsAwaited, IsFit}
-use Rattle.uss_law_supplier.proofs.Others.{is_of_job}
-use Rattle.uss_law_supplier.proofs.Known.{ticket_puts}
+use Rattle.uss_law_book.proofs.Others.{is_of_job}
+use Rattle.uss_law_book.proofs.Known.{ticket_puts}
 use Rattle.uss_law_supplier.proofs.Onward.{IsDue as Due}
 use Rattle.uss_law_supplier.proofs.Fits.{all_fit, fit_others}
 use Rattle.uss_law_supplier.proofs.Good.{Sound, IsRoomy, IsEntryDue, IsGood, none_sent}

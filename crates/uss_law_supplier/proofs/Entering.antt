@@ -1,10 +1,7 @@
 -- The entries that an open job makes, and that the duties allow them.
-use Rattle.std.proofs.Common.{ℕ, zero, suc, ℤ, ◌≤◌, ◌<◌, ◌+◌, ◌^◌, ◌==◌, ◌≢◌, Bool, true, false, List, [], ◌∷◌, ◌++◌, ◌≡◌, length, refl, ap, sym, subst, ◌∙◌, arith, Option, Some, None, is_some}
+use Rattle.std.proofs.Common.{ℕ, zero, suc, ℤ, ◌≤◌, ◌<◌, ◌+◌, ◌^◌, ◌==◌, ◌≢◌, Bool, true, false, List, [], ◌∷◌, ◌++◌, ◌≡◌, length, refl, ap, sym, subst, ◌∙◌, arith, Option, Some, None}
 use Rattle.std.specs.Prelude.{All}
-use Rattle.std.specs.List.{find}
-use Rattle.std.specs.Option.{option_or}
 use Rattle.std.proofs.lemmas.List.{append-nil, length-append}
-use Rattle.std.proofs.lemmas.List.Folds.{find-append}
 use Rattle.uss_intent.specs.declared.records.State.{State}
 use Rattle.uss_intent.specs.declared.records.Subscriber.{Subscriber}
 use Rattle.uss_event.specs.declared.details.Proposal.{Proposal}
@@ -15,8 +12,8 @@ use Rattle.uss_event.specs.declared.entries.Entry.TheVariants as Enters
 use Rattle.uss_event.specs.declared.entries.Ending.{Ending}
 use Rattle.uss_event.specs.declared.events.Event.{Event}
 use Rattle.uss_law_dss.proofs.Tests.{equal_number, unequal_number, not_both, right_true}
-use Rattle.uss_law_book.specs.Lists.{Opening, Trial, Closing, trials, decisions}
-use Rattle.uss_law_book.specs.Readings.{is_held, is_done, is_closed, is_put, decision_of, trials_of, base_of, is_ticket_open}
+use Rattle.uss_law_book.specs.Lists.{Opening, Trial, Closing, trials}
+use Rattle.uss_law_book.specs.Readings.{is_held, is_done, is_closed, is_put, decision_of, trials_of, base_of, is_ticket_open, rounds_of}
 use Rattle.uss_intent.specs.Texts.{IsOvn}
 use Rattle.uss_intent.specs.States.{is_strategic}
 use Rattle.uss_law_book.specs.Coding.{IsDecision, IsEnding, AreOwed}
@@ -26,31 +23,14 @@ use Rattle.uss_law_duty.specs.Answers.{job_named}
 use Rattle.uss_law_duty.specs.Entered.{KeyIsClear, EndsAs, OpensByReply, HoldsByReply}
 use Rattle.uss_law_supplier.specs.declared.duties.Awaited.TheVariants as Waits
 use Rattle.uss_law_supplier.specs.Turns.{Standing, entering}
-use Rattle.uss_law_supplier.specs.Jobs.{rounds_of, pending, attempting, asking, answering, ending, deciding}
+use Rattle.uss_law_supplier.specs.Jobs.{pending, attempting, asking, answering, ending, deciding}
 use Rattle.uss_law_supplier.specs.Fitting.{IsPhase}
-use Rattle.uss_law_supplier.proofs.Others.{decisions_append, trials_either, ticket_either}
-use Rattle.uss_law_supplier.proofs.Known.{IsFirm, tried_ticketed, decided_ticketed}
+use Rattle.uss_law_book.proofs.Others.{trials_either, ticket_either}
+use Rattle.uss_law_book.proofs.Still.{decision_still, decided_then}
+use Rattle.uss_law_book.proofs.Known.{IsFirm, tried_ticketed, decided_ticketed}
 use Rattle.uss_law_supplier.proofs.Good.{IsRoomy, IsGood}
 use Rattle.uss_law_supplier.proofs.Coded.{job_coded, pending_coded, held_coded}
 use Rattle.uss_law_supplier.proofs.Jobs.{IsAt, follows, still_open, good_then, good_closing}
-
--- an entry that decides nothing leaves what a job decided
-pub decision_stays : (i : ℕ) (book : List Entry) (e : Entry) → decisions (e ∷ []) ≡ [] → decision_of i (book ++ e ∷ []) ≡ decision_of i book
-unfolding decision_of
-decision_stays i book e h =
-    ap (λ (l : List Closing). find (λ (d : Closing). d.job == i) l) (decisions_append book (e ∷ []) ∙ ap (λ (l : List Closing). decisions book ++ l) h ∙ append-nil (decisions book))
-
--- what a job decides is decided then
-pub decided_then : (i : ℕ) (book : List Entry) (end : Ending) → decision_of i book ≡ None → is_some (decision_of i (book ++ Enters.Deciding i end ∷ [])) ≡ true
-unfolding decision_of
-decided_then i book end h =
-    let d : Closing = record { job = i; end = end } in
-    let e : find (λ (c : Closing). c.job == i) (decisions (book ++ Enters.Deciding i end ∷ [])) ≡ Some d =
-    ap (λ (l : List Closing). find (λ (c : Closing). c.job == i) l) (decisions_append book (Enters.Deciding i end ∷ []))
-    ∙ find-append (λ (c : Closing). c.job == i) (decisions book) (d ∷ [])
-    ∙ ap (λ o. option_or o (find (λ (c : Closing). c.job == i) (d ∷ []))) h
-    ∙ rw (equal_number i i refl) refl in
-    ap is_some e
 
 -- another job is another job
 pub another : (i j : ℕ) → i ≢ j → (j == i) ≡ false
@@ -134,7 +114,7 @@ good_attempting s heard moment event o alternative key a r k valid room =
     let one = r.one_of in
     let m = follows s e a.sound refl (pending_coded s o alternative key a.sound a.has (omega (arith, eight, one)) r.few valid) tt room due in
     good_then s heard moment event o e Waits.Put (record { follows = m; keys = k; held = tt; removals = tt; tickets = tt }) (still_open s o e a m (pending_leaves_open s o alternative key) (λ i n. another i o.job n))
-    (record { put = ap is_put r.put; undecided = decision_stays o.job s.book e refl ∙ r.undecided; tried = tried_then s o alternative key }) (λ q. cc)
+    (record { put = ap is_put r.put; undecided = decision_still o.job s.book e refl ∙ r.undecided; tried = tried_then s o alternative key }) (λ q. cc)
 
 -- a decision
 
@@ -228,7 +208,7 @@ good_opening s heard moment event o a p shown room =
     (record {
       put = p.0;
       ticket = ticket_either o.job s.book (e ∷ []) ∙ right_true (is_ticket_open o.job s.book) (is_ticket_open o.job (e ∷ [])) (ticket_then o.job);
-      undecided = decision_stays o.job s.book e refl ∙ undecided_without s o a p.1;
+      undecided = decision_still o.job s.book e refl ∙ undecided_without s o a p.1;
       round = subst (λ k. k < rounds_of o.ask.wish) (sym (ap length (trials_either o.job s.book (e ∷ []) ∙ same_trials o.job s.book) ∙ none)) (omega (arith, one));
     })
     (λ q. cc)

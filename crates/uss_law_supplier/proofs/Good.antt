@@ -10,6 +10,7 @@ use Rattle.uss_law_dss.specs.Lists.{Has}
 use Rattle.uss_law_book.specs.Lists.{Opening, owner_of, openings}
 use Rattle.uss_law_book.specs.Reserve.{ReserveCovers}
 use Rattle.uss_law_book.specs.Legal.{MayFollow, IsLegal}
+use Rattle.uss_law_book.specs.Room.{IsNext}
 use Rattle.uss_law_book.specs.Orderly.{IsOrderly}
 use Rattle.uss_law_duty.specs.Heard.{News}
 use Rattle.uss_law_duty.specs.Duties.{book_after, HearsOnly, GoesOn, MayStep, says_something}
@@ -21,10 +22,9 @@ use Rattle.uss_law_supplier.specs.declared.duties.Awaited.TheVariants as Waits
 use Rattle.uss_law_supplier.specs.Values.{Values, awaiting, without_job, with_progress}
 use Rattle.uss_law_supplier.specs.Turns.{Standing, Turn, saying, calling, dss_call, entered, entering}
 use Rattle.uss_law_supplier.specs.Jobs.{making, asking}
-pub use Rattle.uss_law_supplier.specs.Laws.{IsRoomy}
 use Rattle.uss_law_supplier.specs.Typed.{IsHeard}
 use Rattle.uss_law_supplier.specs.Fitting.{IsPhase, IsAwaited, IsFit}
-use Rattle.uss_law_supplier.proofs.Known.{Known}
+use Rattle.uss_law_book.proofs.Known.{Known}
 use Rattle.uss_law_supplier.proofs.Waits.{awaiting_own, awaiting_other, without_own, other_without}
 use Rattle.uss_law_supplier.proofs.Onward as Onward
 use Rattle.uss_law_supplier.proofs.Onward.{IsDssDue, IsOpenJob, call_is_some, call_is_due, kind_is}
@@ -39,6 +39,10 @@ pub record Sound (s : Standing) : Type 0 where
   pub room : ReserveCovers s.book
   pub fit : IsFit s.owner s.book s.values
   pub heard : IsHeard s.values.heard
+
+-- there is room for the entry
+pub record IsRoomy (book : List Entry) (e : Entry) : Type 0 where
+  pub room : IsNext book e → ReserveCovers (book ++ e ∷ [])
 
 -- what an entry rests on
 pub record IsEntryDue (owner : Owner) (book : List Entry) (heard : List News) (event : Event) (e : Entry) : Type 0 where

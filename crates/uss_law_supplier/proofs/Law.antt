@@ -3,7 +3,6 @@ use Rattle.std.proofs.Common.{arith, ℕ, ℤ, Bool, true, false, List, [], ◌�
 use Rattle.std.specs.Prelude.{◌≤ℤ◌, pos}
 use Rattle.std.specs.Int.{int_min, int_max}
 use Rattle.std.proofs.lemmas.Int.{ints}
-use Rattle.std.proofs.lemmas.List.{append-nil, append_assoc}
 use Rattle.uss_vol4.specs.Volume.{InRange, InTime}
 use Rattle.uss_event.specs.Pairs.{OperationalIntent}
 use Rattle.uss_event.specs.declared.calls.PeerReply.TheVariants as Peers
@@ -18,8 +17,7 @@ use Rattle.uss_event.specs.declared.events.Said.TheVariants as Says
 use Rattle.uss_event.specs.declared.events.Event.{Event}
 use Rattle.uss_event.specs.declared.events.Event.TheVariants as Comes
 use Rattle.uss_law_book.specs.Lists.{owner_of}
-use Rattle.uss_law_book.specs.Reserve.{ReserveCovers}
-use Rattle.uss_law_book.specs.Legal.{MayFollow, MayAllFollow, IsLegal}
+use Rattle.uss_law_book.specs.Legal.{MayFollow, IsLegal}
 use Rattle.uss_law_book.proofs.Attempts.{owner_kept}
 use Rattle.uss_law_book.proofs.EachOrderly.{legal_is_orderly, legal_longer}
 use Rattle.uss_law_duty.specs.Heard.{News, by_pair, brought}
@@ -30,29 +28,21 @@ use Rattle.uss_law_supplier.specs.Jobs.{with_values}
 use Rattle.uss_law_supplier.specs.Fitting.{IsFit}
 use Rattle.uss_law_supplier.specs.Replies.{heard_by}
 use Rattle.uss_law_supplier.specs.Step.{stepped, is_of_another, notified_by, supplier_step}
-use Rattle.uss_law_supplier.specs.Laws.{IsRoomy, KeepsRoom, IsSound, StepsKeepDuties, StepsStaySound}
-use Rattle.uss_law_supplier.proofs.Known.{legal_known}
-use Rattle.uss_law_supplier.proofs.Good.{Sound, IsGood, may_step}
+use Rattle.uss_law_supplier.specs.Laws.{IsSound, StepsKeepDuties, StepsStaySound}
+use Rattle.uss_law_book.proofs.Known.{legal_known}
+use Rattle.uss_law_book.proofs.Room.{covered, legal_books_keep_room}
+use Rattle.uss_law_supplier.proofs.Good.{Sound, IsRoomy, IsGood, may_step}
 use Rattle.uss_law_supplier.proofs.Replying.{sound_with}
 use Rattle.uss_law_supplier.proofs.Peering.{hears_it, fit_hearing}
 use Rattle.uss_law_supplier.proofs.Asking.{good_asked, good_cancelled}
 use Rattle.uss_law_supplier.proofs.Stepping.{good_positioned, good_swept, good_replied, good_replied_to_peer, good_failed, good_detailed, good_notified}
-
--- a legal book keeps free what is open
-room_from : (before es : List Entry) → ReserveCovers before → MayAllFollow before es → ReserveCovers (before ++ es)
-room_from before [] r h = subst ReserveCovers (sym (append-nil before)) r
-room_from before (e ∷ es) r h = subst ReserveCovers (append_assoc before (e ∷ []) es) (room_from (before ++ e ∷ []) es h.0.room_after h.1)
-
-legal_room : (book : List Entry) (owner : Owner) → owner_of book ≡ Some owner → IsLegal book → ReserveCovers book
-legal_room [] owner o h = cc
-legal_room (e ∷ es) owner o h = room_from (e ∷ []) es h.0.room_after h.1
 
 abbrev standing : Owner → List Entry → Values → Standing
 standing owner book values = record { owner = owner; book = book; values = values }
 
 pub sound_of : (owner : Owner) (book : List Entry) (values : Values) → IsSound owner book values → Sound (standing owner book values)
 sound_of owner book values d =
-    record { owned = d.owned; legal = d.legal; orderly = legal_is_orderly book d.legal; known = legal_known book d.legal; room = legal_room book owner d.owned d.legal; fit = d.fit; heard = d.heard }
+    record { owned = d.owned; legal = d.legal; orderly = legal_is_orderly book d.legal; known = legal_known book d.legal; room = covered book d.legal; fit = d.fit; heard = d.heard }
 
 -- what a step keeps
 pub record Keeps (owner : Owner) (book : List Entry) (values : Values) (moment : ℤ) (event : Event) (t : Turn) : Type 0 where
@@ -125,13 +115,13 @@ clamped_in_time : (moment : ℤ) → InTime (clamped moment)
 unfolding clamped
 clamped_in_time moment = in_between (pos 946684800000000000) (pos 7258118400000000000) moment (omega arith)
 
-each_roomy : (book : List Entry) (x : Option Entry) → KeepsRoom book → IfSome x (IsRoomy book)
-each_roomy book None r = tt
-each_roomy book (Some e) r = r e
+each_roomy : (book : List Entry) (x : Option Entry) → IsLegal book → IfSome x (IsRoomy book)
+each_roomy book None l = tt
+each_roomy book (Some e) l = record { room = legal_books_keep_room book e l }
 
 pub steps_keep_duties : StepsKeepDuties
-steps_keep_duties owner book values moment event d w r =
-    (keeps (standing owner book values) (clamped moment) event (sound_of owner book values d) w (clamped_in_time moment) (each_roomy book _ r)).may
+steps_keep_duties owner book values moment event d w =
+    (keeps (standing owner book values) (clamped moment) event (sound_of owner book values d) w (clamped_in_time moment) (each_roomy book _ d.legal)).may
 
 legal_then : (book : List Entry) (e : Option Entry) → IsLegal book → IfSome e (MayFollow book) → IsLegal (book_after book e)
 legal_then book None l m = l
@@ -142,8 +132,8 @@ owned_then book None owner o = o
 owned_then book (Some e) owner o = owner_kept book (e ∷ []) owner o
 
 pub steps_stay_sound : StepsStaySound
-steps_stay_sound owner book values moment event d w r =
-    let k = keeps (standing owner book values) (clamped moment) event (sound_of owner book values d) w (clamped_in_time moment) (each_roomy book _ r) in
+steps_stay_sound owner book values moment event d w =
+    let k = keeps (standing owner book values) (clamped moment) event (sound_of owner book values d) w (clamped_in_time moment) (each_roomy book _ d.legal) in
     let t = supplier_step owner book values moment event in
     record { owned = owned_then book t.entry owner d.owned; legal = legal_then book t.entry d.legal k.may.acts.legal; fit = k.fit; heard = heard_then values.heard event t.values.heard d.heard w k.may.hears }
 

@@ -10,7 +10,7 @@ use Rattle.uss_event.specs.declared.events.Said.TheVariants as Says
 use Rattle.uss_event.specs.declared.events.Event.{Event}
 use Rattle.uss_law_dss.proofs.Tests.{less_is, not_less, none_is}
 use Rattle.uss_law_book.specs.Lists.{Opening}
-use Rattle.uss_law_book.specs.Readings.{opening_of, is_put, decision_of, trials_of, is_ticket_open}
+use Rattle.uss_law_book.specs.Readings.{opening_of, is_put, decision_of, trials_of, is_ticket_open, rounds_of}
 use Rattle.std.proofs.lemmas.List.Elements.{All-nil}
 use Rattle.uss_intent.specs.Texts.{IsOvn}
 use Rattle.uss_intent.specs.States.{is_strategic}
@@ -23,9 +23,9 @@ use Rattle.uss_law_supplier.specs.declared.duties.Duty.TheVariants as Duties
 use Rattle.uss_law_supplier.specs.Values.{awaited_of}
 use Rattle.uss_law_supplier.specs.Table.{with_ticket}
 use Rattle.uss_law_supplier.specs.Turns.{Standing}
-use Rattle.uss_law_supplier.specs.Jobs.{keeps_key, rounds_of, is_end, view_of, attempting, carry_on, going_on, resuming_by, resuming}
+use Rattle.uss_law_supplier.specs.Jobs.{keeps_key, is_end, view_of, attempting, carry_on, going_on, resuming_by, resuming}
 use Rattle.uss_law_supplier.specs.Fitting.{IsLooking, IsAwaited}
-use Rattle.uss_law_supplier.proofs.Known.{IsFirm}
+use Rattle.uss_law_book.proofs.Known.{IsFirm}
 use Rattle.uss_law_supplier.proofs.Onward as Onward
 use Rattle.uss_law_supplier.proofs.Onward.{IsDssDue, call_is_due}
 use Rattle.uss_law_supplier.proofs.Good.{IsRoomy, IsGood, good_onward, one_sent}

@@ -31,7 +31,7 @@ use Rattle.uss_event.specs.declared.events.Said.TheVariants as Says
 use Rattle.uss_plan.specs.declared.choice.Choice.{Choice}
 use Rattle.uss_plan.specs.declared.choice.Choice.TheVariants.{Chosen, Blocked}
 use Rattle.uss_law_book.specs.Lists.{Opening, Trial, Closing, trials}
-use Rattle.uss_law_book.specs.Readings.{owns, decision_of, base_of, is_ticket_open, trials_of}
+use Rattle.uss_law_book.specs.Readings.{owns, decision_of, base_of, is_ticket_open, trials_of, rounds_of}
 use Rattle.uss_law_duty.specs.Answers.{flight_of, kept_answer}
 use Rattle.uss_law_duty.specs.Sayings.{others}
 use Rattle.uss_law_duty.specs.Entered.{shown_tag}
@@ -54,10 +54,6 @@ use Rattle.uss_law_supplier.specs.Airspace.{next_unheard, is_left, pairs_in, key
 abbrev pub keeps_key : Wish → Bool
 keeps_key (Put to priority rounds proposals) = is_strategic to
 keeps_key End = false
-
-abbrev pub rounds_of : Wish → ℕ
-rounds_of (Put to priority rounds proposals) = rounds
-rounds_of End = 0
 
 abbrev pub is_end : Wish → Bool
 is_end (Put to priority rounds proposals) = false

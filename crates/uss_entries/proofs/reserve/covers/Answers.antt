@@ -1,7 +1,7 @@
 use Rattle.std.proofs.Common.{◌≤◌, ◌+◌, ◌-◌, ◌≡◌, arith}
-use Rattle.uss_entries.specs.Reserve.{settled_by, taken, released}
+use Rattle.uss_law_book.specs.Changes.{settled_by, taken, released}
 use Rattle.uss_entries.proofs.Fits.{covered_after, covered_by_test}
-use Rattle.uss_entries.proofs.Needed.{need_grows}
+use Rattle.uss_law_book.proofs.Needed.{need_grows}
 use Rattle.uss_entries.proofs.reserve.covers.Goals as goal
 
 pub overflow_sub-result : goal.overflow_sub-result

@@ -1,5 +1,5 @@
 use Rattle.std.proofs.Common.{arith}
-use Rattle.uss_entries.proofs.Needed.{need_grows}
+use Rattle.uss_law_book.proofs.Needed.{need_grows}
 use Rattle.uss_entries.proofs.Fits.{need_fits}
 use Rattle.uss_entries.proofs.reserve.need_after.Goals as goal
 

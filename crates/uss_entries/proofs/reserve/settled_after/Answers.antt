@@ -1,5 +1,5 @@
 use Rattle.std.proofs.Common.{arith}
-use Rattle.uss_entries.proofs.Settled.{settled_grows}
+use Rattle.uss_law_book.proofs.Settled.{settled_grows}
 use Rattle.uss_entries.proofs.Fits.{settled_fits}
 use Rattle.uss_entries.proofs.reserve.settled_after.Goals as goal
 

@@ -1,7 +1,7 @@
 use Rattle.std.proofs.Common.{◌≡◌, ◌∙◌, ◌&&◌, not, ap, refl, is_some}
 use Rattle.uss_law_book.specs.Readings.{is_ticket_open, decision_of}
 use Rattle.uss_legal.proofs.Direct.{ticket_by_any}
-use Rattle.uss_entries.specs.Reserve.{for_ticket}
+use Rattle.uss_law_book.specs.Changes.{for_ticket}
 use Rattle.uss_entries.proofs.Told.{decided_by_any}
 use Rattle.uss_entries.proofs.reserve.taken.Goals as goal
 

@@ -1,6 +1,7 @@
 use Rattle.std.proofs.Common.{◌∙◌, ap, is_some}
 use Rattle.uss_entries.specs.Marks.{has_mark}
-use Rattle.uss_entries.proofs.Told.{any_found, copied_some}
+use Rattle.uss_law_book.proofs.Finds.{any_found}
+use Rattle.uss_entries.proofs.Told.{copied_some}
 use Rattle.uss_entries.proofs.entries.Entries.has.Goals as goal
 
 pub returns : goal.returns

@@ -5,7 +5,7 @@ use Rattle.uss_law_book.specs.Legal.{IsLegal, IsDue}
 use Rattle.uss_law_book.specs.Reserve.{ReserveCovers}
 use Rattle.uss_legal.proofs.AnyEntry.{due_from, due_true}
 use Rattle.uss_entries.specs.Known.{Known}
-use Rattle.uss_entries.proofs.Fits.{covered}
+use Rattle.uss_law_book.proofs.Room.{covered}
 use Rattle.uss_entries.proofs.entries.Entries.may_follow.Goals as goal
 
 pub covers-requires-clause-due : goal.covers-requires-clause-due

@@ -7,7 +7,7 @@ use Rattle.std.proofs.lemmas.List.Sums.{sum_by-cons}
 use Rattle.uss_law_dss.specs.Lists.{Has}
 use Rattle.uss_law_dss.proofs.Tests.{same_number, unequal_number}
 use Rattle.uss_law_book.specs.Lists.{Opening}
-use Rattle.uss_entries.proofs.Still.{one_if}
+use Rattle.uss_law_book.proofs.Still.{one_if}
 
 -- the jobs are numbered without a gap
 abbrev pub AreNumbered : ℕ → List Opening → Type 0

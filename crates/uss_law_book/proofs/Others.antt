@@ -1,6 +1,6 @@
 -- An entry of one job leaves what the book says of each other job as it is.
-use Rattle.std.proofs.Common.{ℕ, ◌==◌, Bool, true, false, ◌||◌, List, [], ◌∷◌, ◌++◌, ◌≡◌, ◌⊎◌, refl, ap, subst, ◌∙◌, Option, Some, None}
-use Rattle.std.specs.List.{last_or, find}
+use Rattle.std.proofs.Common.{ℕ, ◌==◌, Bool, false, ◌||◌, List, [], ◌∷◌, ◌++◌, ◌≡◌, ◌⊎◌, refl, ap, subst, ◌∙◌, None}
+use Rattle.std.specs.List.{find}
 use Rattle.std.specs.Option.{option_or}
 use Rattle.std.proofs.lemmas.List.{append-nil}
 use Rattle.std.proofs.lemmas.List.Folds.{list_any-append, find-append}
@@ -13,8 +13,8 @@ use Rattle.uss_law_dss.specs.Lists.{Has}
 use Rattle.uss_law_dss.proofs.Lists.{has_append}
 use Rattle.uss_law_book.specs.Lists.{Trial, Closing, tickets_opened, trials, decisions}
 use Rattle.uss_law_book.specs.Readings.{is_held, is_done, is_closed, is_ticket_open, decision_of, trials_of}
+use Rattle.uss_law_book.proofs.Finds.{or_false, or_none}
 use Rattle.uss_law_book.proofs.Entries.{trials_append, closed_by_either}
-use Rattle.uss_law_supplier.specs.Calls.{last_trial}
 
 -- the entry is one of the job
 abbrev pub is_of_job : ℕ → Entry → Bool
@@ -44,10 +44,6 @@ which_ticket xs ys job h = has_append (tickets_opened xs) (tickets_opened ys) jo
 pub which_decision : (xs ys : List Entry) (d : Closing) → Has (decisions (xs ++ ys)) d → Has (decisions xs) d ⊎ Has (decisions ys) d
 which_decision xs ys d h = has_append (decisions xs) (decisions ys) d (subst (λ (l : List Closing). Has l d) (decisions_append xs ys) h)
 
-or_false : (b : Bool) → (b || false) ≡ b
-or_false true = refl
-or_false false = refl
-
 unclosed_of : (i : ℕ) (e : Entry) → is_of_job i e ≡ false → is_closed i (e ∷ []) ≡ false
 unfolding is_held is_done
 unclosed_of i (Held job tag ovn version owed) h = rw h refl
@@ -73,10 +69,6 @@ none_decided : (i : ℕ) (e : Entry) → is_of_job i e ≡ false → find (λ (d
 none_decided i (Deciding job end) h = rw h refl
 none_decided i _ h = refl
 
-or_none : (o : Option Closing) → option_or o None ≡ o
-or_none None = refl
-or_none (Some d) = refl
-
 pub decision_same : (i : ℕ) (book : List Entry) (e : Entry) → is_of_job i e ≡ false → decision_of i (book ++ e ∷ []) ≡ decision_of i book
 unfolding decision_of
 decision_same i book e h =
@@ -95,7 +87,3 @@ trials_either i xs ys = rw (trials_append xs ys) (filter-append (λ (t : Trial).
 
 pub trials_same : (i : ℕ) (book : List Entry) (e : Entry) → is_of_job i e ≡ false → trials_of i (book ++ e ∷ []) ≡ trials_of i book
 trials_same i book e h = trials_either i book (e ∷ []) ∙ ap (λ (l : List Trial). trials_of i book ++ l) (untried_of i e h) ∙ append-nil (trials_of i book)
-
-pub last_same : (i : ℕ) (book : List Entry) (e : Entry) → is_of_job i e ≡ false → last_trial i (book ++ e ∷ []) ≡ last_trial i book
-unfolding last_trial
-last_same i book e h = ap (λ (l : List Trial). last_or None l) (trials_same i book e h)

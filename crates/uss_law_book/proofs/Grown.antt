@@ -12,7 +12,7 @@ use Rattle.uss_law_book.specs.Lists.{Opening, Holding, Closing, openings, holdin
 use Rattle.uss_law_book.specs.Readings.{opening_of, jobs_of, greater, greatest, last_of, is_ended, is_job_of, has_ended, holdings_of, last_holding}
 use Rattle.uss_law_book.specs.Legal.{MayOpen}
 use Rattle.uss_law_book.specs.Orderly.{IsOrderly}
-use Rattle.uss_law_book.proofs.Finds.{any_agrees, filter_agrees, none_filtered}
+use Rattle.uss_law_book.proofs.Finds.{any_agrees, filter_agrees, none_filtered, or_false}
 use Rattle.uss_law_book.proofs.Entries.{openings_append, holdings_append, endings_append, opening_kept}
 use Rattle.uss_law_book.proofs.Greatest.{number_is_greater}
 use Rattle.uss_law_book.proofs.Kept.{flight_stays}
@@ -90,10 +90,6 @@ ended_split g es e s =
     ∙ list_any-append later (endings es) (endings (e ∷ []))
     ∙ ap (λ b. b || list_any later (endings (e ∷ [])))
     (any_agrees later before (endings es) (λ x k. let r = s.ended x k in ap (λ b. is_ended x.end && b) (flight_stays es (e ∷ []) g x.job r.0 r.1 r.2)))
-
-pub or_false : (a : Bool) → (a || false) ≡ a
-or_false true = refl
-or_false false = refl
 
 pub ended_else : (g : ℕ) (es : List Entry) (e : Entry) → IsOrderly es → ((x : Closing) → Has (endings (e ∷ [])) x → (is_ended x.end && is_job_of g x.job (es ++ e ∷ [])) ≡ false) → has_ended g (es ++ e ∷ []) ≡ has_ended g es
 ended_else g es e s none =

@@ -1,8 +1,7 @@
 -- How the bytes that a book keeps free change with an entry.
 use Rattle.std.proofs.Common.{ℕ, ◌+◌, ◌*◌, ◌<◌, ◌==◌, Bool, true, false, not, ◌||◌, ◌&&◌, List, [], ◌∷◌, ◌++◌, ◌≡◌, filter, length, append-nil, refl, ap, sym, subst, ◌∙◌, arith, Some, None, is_some}
 use Rattle.std.specs.Prelude.{sum_by}
-use Rattle.std.specs.List.{list_any, find, range_with_len}
-use Rattle.std.specs.Option.{option_and_then}
+use Rattle.std.specs.List.{range_with_len}
 use Rattle.std.proofs.lemmas.List.Sums.{sum_by_push}
 use Rattle.std.proofs.lemmas.List.FromFn.{length-range_with_len}
 use Rattle.uss_intent.specs.declared.records.Subscriber.{Subscriber}
@@ -12,7 +11,7 @@ use Rattle.uss_event.specs.declared.entries.Entry.TheVariants.{Opened, TicketOpe
 use Rattle.uss_event.specs.declared.entries.Entry.TheVariants as Enters
 use Rattle.uss_law_dss.specs.Lists.{Has}
 use Rattle.uss_law_dss.proofs.Lists.{list_any_has}
-use Rattle.uss_law_dss.proofs.Tests.{same_number, equal_number, unequal_number, neither, either, right_true, none_is}
+use Rattle.uss_law_dss.proofs.Tests.{same_number, unequal_number, neither, either, left_false, right_true}
 use Rattle.uss_law_book.specs.Lists.{Opening, Holding, Closing, openings, holdings, endings, tickets_gone}
 use Rattle.uss_law_book.specs.Readings.{opening_of, is_held, is_done, is_closed, decision_of, holding_of, ending_of, is_ticket_open, is_ticket_gone, owed_of, owed_at_end, is_told, untold, keeps_ticket}
 use Rattle.uss_law_book.specs.Reserve.{need}
@@ -21,14 +20,11 @@ use Rattle.uss_law_book.specs.Orderly.{IsOrderly}
 use Rattle.uss_law_book.proofs.Entries.{openings_append, unclosed_before}
 use Rattle.uss_law_book.proofs.Kept.{opening_has, open_parts}
 use Rattle.uss_law_book.proofs.EachOrderly.{legal_is_orderly}
-use Rattle.uss_legal.specs.Speaks.{job_of, speaks_of, tells, holding_in, ending_in}
-use Rattle.uss_legal.proofs.Direct.{held_by_any, done_by_any, holding_by_find, ending_by_find}
-use Rattle.uss_entries.specs.Reserve.{for_ticket, taken, released}
-use Rattle.uss_entries.proofs.Places.{found_now}
-use Rattle.uss_entries.proofs.Told.{any_found}
-use Rattle.uss_entries.proofs.Opens.{each_legal}
-use Rattle.uss_entries.proofs.Still.{any_more, done_still, ticket_still, gone_still, gone_more, told_still, told_more, holding_still, decision_still, owed_still, closed_still, untold_still, ticket_gone_still, filters_agree, one_if, cost, cost_still}
-use Rattle.uss_entries.proofs.Sums.{AreNumbered, one_more_job, at_least, sums_agree, sums_differ, counts_are_sums, one_less}
+use Rattle.uss_law_book.specs.Changes.{for_ticket, taken, released}
+use Rattle.uss_law_book.proofs.EachLegal.{each_legal}
+use Rattle.uss_law_book.proofs.Others.{is_of_job}
+use Rattle.uss_law_book.proofs.Still.{held_either, done_either, gone_either, told_either, done_still, closed_still, ticket_still, gone_still, told_still, holding_still, decision_still, owed_still, untold_still, ticket_gone_still, filters_agree, holds_it, ends_it, goes_now, tells_it, nothing_held, nothing_ended, held_now, ended_now, one_if, cost, cost_still}
+use Rattle.uss_law_book.proofs.Sums.{AreNumbered, one_more_job, sums_agree, sums_differ, counts_are_sums, one_less}
 
 -- ---- what holds of every legal book
 
@@ -39,18 +35,19 @@ numbered es l = each_legal (λ book. AreNumbered 1 (openings book)) tt (λ book 
     more book (Opened job moment ask) m was = let d = m.due.next in one_more_job 1 (openings book) (record { job = job; moment = moment; ask = ask }) was (omega (arith, d))
     more book e m was = subst (λ (os : List Opening). AreNumbered 1 os) (sym (append-nil (openings book))) was
 
-no_answer : (es : List Entry) (e : Entry) → IsDue es e → (j place : ℕ) → is_closed j es ≡ false → tells j place e ≡ false
+no_answer : (es : List Entry) (e : Entry) → IsDue es e → (j place : ℕ) → is_closed j es ≡ false → is_told j place (e ∷ []) ≡ false
+unfolding is_told
 no_answer es (Sent k p) d j place u = go (k == j) refl
   where
-    go : (b : Bool) → (k == j) ≡ b → (b && (p == place)) ≡ false
+    go : (b : Bool) → (k == j) ≡ b → ((b && (p == place)) || false) ≡ false
     go true q = absurd (let c : is_closed j es ≡ true = subst (λ n. is_closed n es ≡ true) (same_number k j q) d.closed in let t : true ≡ false = sym c ∙ u in cc)
     go false q = refl
 no_answer es _ d j place u = refl
 
-not_gone : (es : List Entry) (e : Entry) → IsDue es e → (j : ℕ) → is_closed j es ≡ false → speaks_of 8 j e ≡ false
+not_gone : (es : List Entry) (e : Entry) → IsDue es e → (j : ℕ) → is_closed j es ≡ false → is_one_of j (tickets_gone (e ∷ [])) ≡ false
 not_gone es (TicketGone k) d j u = go (k == j) refl
   where
-    go : (b : Bool) → (k == j) ≡ b → b ≡ false
+    go : (b : Bool) → (k == j) ≡ b → (b || false) ≡ false
     go true q = absurd (let c : is_closed j es ≡ true = subst (λ n. is_closed n es ≡ true) (same_number k j q) d.closed in let t : true ≡ false = sym c ∙ u in cc)
     go false q = refl
 not_gone es _ d j u = refl
@@ -72,8 +69,8 @@ unanswered es l = each_legal (λ book. (j : ℕ) → is_closed j book ≡ false 
         let before = unclosed_before j book (e ∷ []) u in
         let w = was j before in
         record {
-          untold = λ place. told_still j place book e (no_answer book e m.due j place before) ∙ w.untold place;
-          there = gone_still j book e (not_gone book e m.due j before) ∙ w.there;
+          untold = λ place. told_either j place book (e ∷ []) ∙ left_false (is_told j place book) (is_told j place (e ∷ [])) (w.untold place) (no_answer book e m.due j place before);
+          there = gone_either j book (e ∷ []) ∙ left_false (is_one_of j (tickets_gone book)) (is_one_of j (tickets_gone (e ∷ []))) w.there (not_gone book e m.due j before);
         }
 
 pub closed_is_opened : (es : List Entry) (j : ℕ) → IsOrderly es → is_closed j es ≡ true → (o : Opening) × Has (openings es) o × (o.job ≡ j)
@@ -116,18 +113,12 @@ cost_parts es j b n k p q r =
     ∙ ap (λ x. 8388608 * one_if (not b) + 64 * x + 64 * one_if (keeps_ticket j es)) q
     ∙ ap (λ x. 8388608 * one_if (not b) + 64 * n + 64 * one_if x) r
 
-nothing_held : (es : List Entry) (j : ℕ) → is_held j es ≡ false → find (speaks_of 5 j) es ≡ None
-nothing_held es j h = none_is (find (speaks_of 5 j) es) (any_found (speaks_of 5 j) es ∙ held_by_any j es ∙ h)
-
-nothing_ended : (es : List Entry) (j : ℕ) → is_done j es ≡ false → find (speaks_of 7 j) es ≡ None
-nothing_ended es j h = none_is (find (speaks_of 7 j) es) (any_found (speaks_of 7 j) es ∙ done_by_any j es ∙ h)
-
 pub unclosed_cost : (es : List Entry) (j : ℕ) → is_closed j es ≡ false → cost es j ≡ 8388608
 unfolding untold owed_of
 unclosed_cost es j u =
     let p = neither (is_held j es) (is_done j es) u in
-    let h : holding_of j es ≡ None = holding_by_find j es ∙ ap (option_and_then holding_in) (nothing_held es j p.0) in
-    let d : ending_of j es ≡ None = ending_by_find j es ∙ ap (option_and_then ending_in) (nothing_ended es j p.1) in
+    let h = nothing_held j es p.0 in
+    let d = nothing_ended j es p.1 in
     let n : length (untold j es) ≡ 0 = rw (h, d) refl in
     let k : keeps_ticket j es ≡ false = ap (λ b. b && (is_ticket_open j es && not (is_ticket_gone j es))) u in
     cost_parts es j false 0 false u n k
@@ -166,11 +157,10 @@ held_cost es x l u =
     let e : Entry = Held x.job x.tag x.ovn x.version x.owed in
     let p = neither (is_held x.job es) (is_done x.job es) u in
     let w = unanswered es l x.job u in
-    let like : speaks_of 5 x.job e ≡ true = equal_number x.job x.job refl in
     let done : is_done x.job (es ++ e ∷ []) ≡ false = done_still x.job es e refl ∙ p.1 in
-    let held : is_held x.job (es ++ e ∷ []) ≡ true = sym (held_by_any x.job (es ++ e ∷ [])) ∙ any_more (speaks_of 5 x.job) es e ∙ right_true (list_any (speaks_of 5 x.job) es) (speaks_of 5 x.job e) like in
+    let held : is_held x.job (es ++ e ∷ []) ≡ true = held_either x.job es (e ∷ []) ∙ right_true (is_held x.job es) (is_held x.job (e ∷ [])) (holds_it x.job x.tag x.ovn x.version x.owed) in
     let closed : is_closed x.job (es ++ e ∷ []) ≡ true = ap (λ b. b || is_done x.job (es ++ e ∷ [])) held in
-    let found : holding_of x.job (es ++ e ∷ []) ≡ Some x = holding_by_find x.job (es ++ e ∷ []) ∙ ap (option_and_then holding_in) (found_now (speaks_of 5 x.job) es e (nothing_held es x.job p.0) like) in
+    let found : holding_of x.job (es ++ e ∷ []) ≡ Some x = held_now es x (nothing_held x.job es p.0) in
     let owed : owed_of x.job (es ++ e ∷ []) ≡ x.owed = rw found refl in
     let gone : is_ticket_gone x.job (es ++ e ∷ []) ≡ false = rw (gone_still x.job es e refl, w.there, done) refl in
     closed_cost (es ++ e ∷ []) x.job x.owed (is_ticket_open x.job es) false closed owed (λ place. told_still x.job place es e refl ∙ w.untold place) (ticket_still x.job es e refl) gone
@@ -183,11 +173,10 @@ done_cost es x l u =
     let e : Entry = Done x.job x.end in
     let p = neither (is_held x.job es) (is_done x.job es) u in
     let w = unanswered es l x.job u in
-    let like : speaks_of 7 x.job e ≡ true = equal_number x.job x.job refl in
-    let done : is_done x.job (es ++ e ∷ []) ≡ true = sym (done_by_any x.job (es ++ e ∷ [])) ∙ any_more (speaks_of 7 x.job) es e ∙ right_true (list_any (speaks_of 7 x.job) es) (speaks_of 7 x.job e) like in
+    let done : is_done x.job (es ++ e ∷ []) ≡ true = done_either x.job es (e ∷ []) ∙ right_true (is_done x.job es) (is_done x.job (e ∷ [])) (ends_it x.job x.end) in
     let closed : is_closed x.job (es ++ e ∷ []) ≡ true = right_true (is_held x.job (es ++ e ∷ [])) (is_done x.job (es ++ e ∷ [])) done in
-    let none : holding_of x.job (es ++ e ∷ []) ≡ None = holding_still x.job es e refl ∙ holding_by_find x.job es ∙ ap (option_and_then holding_in) (nothing_held es x.job p.0) in
-    let found : ending_of x.job (es ++ e ∷ []) ≡ Some x = ending_by_find x.job (es ++ e ∷ []) ∙ ap (option_and_then ending_in) (found_now (speaks_of 7 x.job) es e (nothing_ended es x.job p.1) like) in
+    let none : holding_of x.job (es ++ e ∷ []) ≡ None = holding_still x.job es e refl ∙ nothing_held x.job es p.0 in
+    let found : ending_of x.job (es ++ e ∷ []) ≡ Some x = ended_now es x (nothing_ended x.job es p.1) in
     let owed : owed_of x.job (es ++ e ∷ []) ≡ owed_at_end x.end = rw (none, found) refl in
     let gone : is_ticket_gone x.job (es ++ e ∷ []) ≡ is_some (decision_of x.job es) = rw (gone_still x.job es e refl, w.there, done, decision_still x.job es e refl) refl in
     closed_cost (es ++ e ∷ []) x.job (owed_at_end x.end) (is_ticket_open x.job es) (is_some (decision_of x.job es)) closed owed (λ place. told_still x.job place es e refl ∙ w.untold place) (ticket_still x.job es e refl) gone
@@ -196,9 +185,8 @@ gone_cost : (es : List Entry) (j : ℕ) → MayRetire es j → cost es j ≡ cos
 unfolding is_ticket_gone
 gone_cost es j d =
     let e : Entry = TicketGone j in
-    let like : speaks_of 8 j e ≡ true = equal_number j j refl in
     let before : keeps_ticket j es ≡ true = rw (d.closed, d.heard_open, d.not_gone) refl in
-    let gone : is_one_of j (tickets_gone (es ++ e ∷ [])) ≡ true = gone_more j es e ∙ right_true (is_one_of j (tickets_gone es)) (speaks_of 8 j e) like in
+    let gone : is_one_of j (tickets_gone (es ++ e ∷ [])) ≡ true = gone_either j es (e ∷ []) ∙ right_true (is_one_of j (tickets_gone es)) (is_one_of j (tickets_gone (e ∷ []))) (goes_now j) in
     let closed : is_closed j (es ++ e ∷ []) ≡ true = closed_still j es e refl refl ∙ d.closed in
     let ticket : is_ticket_open j (es ++ e ∷ []) ≡ true = ticket_still j es e refl ∙ d.heard_open in
     let now : keeps_ticket j (es ++ e ∷ []) ≡ false =
@@ -206,11 +194,8 @@ gone_cost es j d =
     ∙ ap (λ b. b && not (is_ticket_gone j (es ++ e ∷ []))) ticket
     ∙ ap (λ b. not (b || (is_done j (es ++ e ∷ []) && is_some (decision_of j (es ++ e ∷ []))))) gone in
     let a = cost_parts es j true (length (untold j es)) true d.closed refl before in
-    let b = cost_parts (es ++ e ∷ []) j true (length (untold j es)) false closed (ap length (untold_still j es e refl refl (λ place. refl))) now in
+    let b = cost_parts (es ++ e ∷ []) j true (length (untold j es)) false closed (ap length (untold_still j es e refl refl refl)) now in
     omega (arith, a, b)
-
-answers_it : (j p x : ℕ) → tells j x (Sent j p) ≡ (p == x)
-answers_it j p x = rw (equal_number j j refl) refl
 
 sent_cost : (es : List Entry) (j p : ℕ) → MayTell es j p → cost es j ≡ cost (es ++ Sent j p ∷ []) j + 64
 unfolding untold
@@ -221,7 +206,7 @@ sent_cost es j p d =
     let fewer : untold j (es ++ e ∷ []) ≡ filter (λ x. not (is_told j x es || (p == x))) (range_with_len 0 n) =
     ap (λ owed. filter (λ x. not (is_told j x (es ++ e ∷ []))) (range_with_len 0 (length owed))) (owed_still j es e refl refl)
     ∙ filters_agree (λ x. not (is_told j x (es ++ e ∷ []))) (λ x. not (is_told j x es || (p == x))) (range_with_len 0 n)
-    (λ x. ap not (told_more j x es e ∙ ap (λ b. is_told j x es || b) (answers_it j p x))) in
+    (λ x. ap not (told_either j x es (e ∷ []) ∙ ap (λ b. is_told j x es || b) (tells_it j p x))) in
     let less = one_less (λ x. is_told j x es) p 0 n (omega arith) (let lt : p < length (owed_of j es) = d.owed in omega (arith, lt)) d.new in
     let keeps : keeps_ticket j (es ++ e ∷ []) ≡ keeps_ticket j es =
     ap (λ b. b && (is_ticket_open j (es ++ e ∷ []) && not (is_ticket_gone j (es ++ e ∷ [])))) (closed_still j es e refl refl)
@@ -249,64 +234,68 @@ need_opened es o s d =
     let b = need_is es in
     omega (arith, all, old, new, a, b)
 
+-- the entry is of the job, and of no other
+abbrev IsOf : ℕ → Entry → Type 0
+IsOf j e = (x : ℕ) → (j == x) ≡ false → is_of_job x e ≡ false
+
 -- where the entry opens no job, and is of one that was opened
-need_changed : (es : List Entry) (e : Entry) (o : Opening) → IsLegal es → openings (e ∷ []) ≡ [] → Has (openings es) o → o.job ≡ job_of e → need (es ++ e ∷ []) + cost es (job_of e) ≡ need es + cost (es ++ e ∷ []) (job_of e)
-need_changed es e o l none h same =
+need_changed : (es : List Entry) (e : Entry) (j : ℕ) (o : Opening) → IsLegal es → openings (e ∷ []) ≡ [] → IsOf j e → Has (openings es) o → o.job ≡ j → need (es ++ e ∷ []) + cost es j ≡ need es + cost (es ++ e ∷ []) j
+need_changed es e j o l none of h same =
     let still : openings (es ++ e ∷ []) ≡ openings es = openings_append es (e ∷ []) ∙ ap (λ (os : List Opening). openings es ++ os) none ∙ append-nil (openings es) in
     let a : need (es ++ e ∷ []) ≡ sum_by (λ (p : Opening). cost (es ++ e ∷ []) p.job) (openings es) = need_is (es ++ e ∷ []) ∙ ap (λ (os : List Opening). sum_by (λ (p : Opening). cost (es ++ e ∷ []) p.job) os) still in
     let b = need_is es in
-    let d = sums_differ (cost es) (cost (es ++ e ∷ [])) (job_of e) 1 (openings es) o (numbered es l) (λ x n. cost_still x es e n) h same in
+    let d = sums_differ (cost es) (cost (es ++ e ∷ [])) j 1 (openings es) o (numbered es l) (λ x n. cost_still x es e (of x n)) h same in
     omega (arith, a, b, d)
 
 -- an entry of an open job that doesn't close it
-need_kept : (es : List Entry) (e : Entry) (o : Opening) → IsLegal es → openings (e ∷ []) ≡ [] → opening_of (job_of e) es ≡ Some o → is_closed (job_of e) es ≡ false → speaks_of 5 (job_of e) e ≡ false → speaks_of 7 (job_of e) e ≡ false
+need_kept : (es : List Entry) (e : Entry) (j : ℕ) (o : Opening) → IsLegal es → openings (e ∷ []) ≡ [] → IsOf j e → opening_of j es ≡ Some o → is_closed j es ≡ false → holdings (e ∷ []) ≡ [] → endings (e ∷ []) ≡ []
     → need (es ++ e ∷ []) ≡ need es
-need_kept es e o l none at u h k =
-    let has = opening_has es (job_of e) o at in
-    let c = need_changed es e o l none has.0 has.1 in
-    let a = unclosed_cost es (job_of e) u in
-    let b = unclosed_cost (es ++ e ∷ []) (job_of e) (closed_still (job_of e) es e h k ∙ u) in
+need_kept es e j o l none of at u h k =
+    let has = opening_has es j o at in
+    let c = need_changed es e j o l none of has.0 has.1 in
+    let a = unclosed_cost es j u in
+    let b = unclosed_cost (es ++ e ∷ []) j (closed_still j es e h k ∙ u) in
     omega (arith, a, b, c)
 
-need_owner : (es : List Entry) (e : Entry) → IsLegal es → openings (e ∷ []) ≡ [] → job_of e ≡ 0 → need (es ++ e ∷ []) ≡ need es
-need_owner es e l none zero =
+-- an entry of no job
+need_still : (es : List Entry) (e : Entry) → openings (e ∷ []) ≡ [] → ((x : ℕ) → is_of_job x e ≡ false) → need (es ++ e ∷ []) ≡ need es
+need_still es e none of =
     let still : openings (es ++ e ∷ []) ≡ openings es = openings_append es (e ∷ []) ∙ ap (λ (os : List Opening). openings es ++ os) none ∙ append-nil (openings es) in
     need_is (es ++ e ∷ []) ∙ ap (λ (os : List Opening). sum_by (λ (p : Opening). cost (es ++ e ∷ []) p.job) os) still
-    ∙ sums_agree (cost es) (cost (es ++ e ∷ [])) (openings es) (λ p h. cost_still p.job es e (let l' = at_least 1 (openings es) p (numbered es l) h in unequal_number (job_of e) p.job (λ y. absurd (omega (arith, l', y, zero)))))
+    ∙ sums_agree (cost es) (cost (es ++ e ∷ [])) (openings es) (λ p h. cost_still p.job es e (of p.job))
     ∙ sym (need_is es)
 
 -- the bytes that are kept free grow by what the entry takes, and fall by what it releases
 pub need_grows : (es : List Entry) (e : Entry) → IsLegal es → IsDue es e → need (es ++ e ∷ []) + released e ≡ need es + taken es e
-need_grows es (Enters.Owner owner) l m = let a = need_owner es (Enters.Owner owner) l refl refl in omega (arith, a)
+need_grows es (Enters.Owner owner) l m = let a = need_still es (Enters.Owner owner) refl (λ x. refl) in omega (arith, a)
 need_grows es (Opened job moment ask) l m = let a = need_opened es (record { job = job; moment = moment; ask = ask }) (legal_is_orderly es l) m in omega (arith, a)
 need_grows es (TicketOpen job) l m =
-    let d = m in let a = need_kept es (TicketOpen job) d.opening l refl d.unfinished.opened d.unfinished.unclosed refl refl in omega (arith, a)
+    let a = need_kept es (TicketOpen job) job m.opening l refl (λ x n. n) m.unfinished.opened m.unfinished.unclosed refl refl in omega (arith, a)
 need_grows es (Pending job tag alternative previous key) l m =
-    let d = m in let a = need_kept es (Pending job tag alternative previous key) d.opening l refl d.unfinished.opened d.unfinished.unclosed refl refl in omega (arith, a)
+    let a = need_kept es (Pending job tag alternative previous key) job m.opening l refl (λ x n. n) m.unfinished.opened m.unfinished.unclosed refl refl in omega (arith, a)
 need_grows es (Deciding job end) l m =
-    let d = m in let a = need_kept es (Deciding job end) d.opening l refl d.unfinished.opened d.unfinished.unclosed refl refl in omega (arith, a)
+    let a = need_kept es (Deciding job end) job m.opening l refl (λ x n. n) m.unfinished.opened m.unfinished.unclosed refl refl in omega (arith, a)
 need_grows es (Held job tag ovn version owed) l m =
     let o = open_parts es job m.unfinished in
     let has = opening_has es job o.0 o.1 in
     let x : Holding = record { job = job; tag = tag; ovn = ovn; version = version; owed = owed } in
-    let c = need_changed es (Held job tag ovn version owed) o.0 l refl has.0 has.1 in
+    let c = need_changed es (Held job tag ovn version owed) job o.0 l refl (λ x n. n) has.0 has.1 in
     let a = unclosed_cost es job o.2 in
     let b = held_cost es x l o.2 in
     omega (arith, a, b, c)
 need_grows es (Done job end) l m =
-    let d = m in
-    let has = opening_has es job d.opening d.opened in
-    let c = need_changed es (Done job end) d.opening l refl has.0 has.1 in
-    let a = unclosed_cost es job d.unclosed in
-    let b = done_cost es (record { job = job; end = end }) l d.unclosed in
+    let has = opening_has es job m.opening m.opened in
+    let c = need_changed es (Done job end) job m.opening l refl (λ x n. n) has.0 has.1 in
+    let a = unclosed_cost es job m.unclosed in
+    let b = done_cost es (record { job = job; end = end }) l m.unclosed in
     omega (arith, a, b, c)
 need_grows es (TicketGone job) l m =
     let o = closed_is_opened es job (legal_is_orderly es l) m.closed in
-    let c = need_changed es (TicketGone job) o.0 l refl o.1 o.2 in
+    let c = need_changed es (TicketGone job) job o.0 l refl (λ x n. n) o.1 o.2 in
     let a = gone_cost es job m in
     omega (arith, a, c)
 need_grows es (Sent job place) l m =
     let o = closed_is_opened es job (legal_is_orderly es l) m.closed in
-    let c = need_changed es (Sent job place) o.0 l refl o.1 o.2 in
+    let c = need_changed es (Sent job place) job o.0 l refl (λ x n. n) o.1 o.2 in
     let a = sent_cost es job place m in
     omega (arith, a, c)
