@@ -51,6 +51,7 @@ use Rattle.uss_law_supplier.proofs.Asking.{are_plans}
 use Rattle.uss_law_supplier.proofs.Choosing.{chosen_is_free, blocked_is_by, key_is_short}
 use Rattle.uss_law_asking.specs.Exchange.{turn_of}
 use Rattle.uss_law_asking.specs.Complete.{IsUndisturbed, is_new, IsRecordedBy, IsOfChoice, intent_of, around, intents_around}
+use Rattle.uss_law_asking.proofs.Calm.{plan_of}
 use Rattle.uss_law_asking.proofs.Walk.{ComesOutAs, stops_by}
 use Rattle.uss_law_asking.proofs.Covers.{in_all}
 use Rattle.uss_law_asking.proofs.Area.{AreaCovers}
@@ -196,7 +197,7 @@ chooses_out s moment ask service served u v event to priority rounds proposals w
     is_choice = ap (choice_by s o intents) w
 
     plans : ArePlans to priority rounds proposals
-    plans = are_plans to priority rounds proposals (ap plan_refusal (sym w) ∙ calm.plan)
+    plans = are_plans to priority rounds proposals (ap plan_refusal (sym w) ∙ (plan_of s moment ask service served calm))
 
     none_tried : trials_of o.job (looking_book s moment ask) ≡ []
     none_tried = looking_untried s moment ask sound

@@ -49,6 +49,7 @@ use Rattle.uss_law_supplier.proofs.Onward.{IsOpenJob}
 use Rattle.uss_law_supplier.proofs.Asking.{first_kind, parts_none}
 use Rattle.uss_law_asking.specs.Exchange.{turn_of, stands_then, last_turn}
 use Rattle.uss_law_asking.specs.Complete.{IsUndisturbed, IsOutcome}
+use Rattle.uss_law_asking.proofs.Calm.{plan_of, accepted_of}
 use Rattle.uss_law_asking.proofs.Asked.{new_unfinished}
 use Rattle.uss_law_asking.proofs.Walk.{ComesOutAs, Settles, goes_on_by, stops_by, acts_so, opens_so}
 use Rattle.uss_law_asking.proofs.Recorded.{IsRecorded, held_recorded}
@@ -142,7 +143,7 @@ ends_so s moment ask service served ovn w sound calm held =
     let t = with_entry e (calling o.job (dss_call o.job (Asks.Remove flight ovn)) s.values) in
     let base : base_of ask.flight (s.book ++ e ∷ []) ≡ Some ovn = base_then s at ask sound ∙ held.base in
     let opens : turn_of s moment (Comes.Ask ask) ≡ t =
-    opens_so s moment ask orderly (legal_known s.book sound.legal) calm.plan calm.new calm.accepted
+    opens_so s moment ask orderly (legal_known s.book sound.legal) (plan_of s moment ask service served calm) calm.new (accepted_of s moment ask service served calm)
     ∙ ap (λ (x : Wish). with_entry e (asking (entered s e) o (first_kind (is_end x)))) w
     ∙ ap (λ (x : Option (List ℕ)). with_entry e (making (entered s e) o.job (option_map (λ ovn. Asks.Remove flight ovn) x))) base in
     let step = removes service s.owner.name flight ovn held.it held.found held.manager held.ovn_is calm.alive in
@@ -154,6 +155,6 @@ ends_so s moment ask service served ovn w sound calm held =
 
 pub ends_come_out : (ask : FlightAsk) → ask.wish ≡ End → Settles ask
 ends_come_out ask w s moment service served sound calm =
-    let h = held_there s (clamped moment) ask (ap begins_flight w) calm.accepted in
+    let h = held_there s (clamped moment) ask (ap begins_flight w) (accepted_of s moment ask service served calm) in
     let held = held_recorded s moment ask service served h.0 sound calm h.1 in
     subst (λ (x : Wish). ComesOutAs (IsOutcome s moment ask service served x) s.owner.name served s moment (Comes.Ask ask) service) (sym w) (ends_so s moment ask service served h.0.ovn w sound calm held)

@@ -69,6 +69,7 @@ use Rattle.uss_law_supplier.proofs.Asking as Asking
 use Rattle.uss_law_supplier.proofs.Asking.{first_kind, are_plans, new_untried}
 use Rattle.uss_law_asking.specs.Exchange.{turn_of, stands_then}
 use Rattle.uss_law_asking.specs.Complete.{IsUndisturbed, is_new}
+use Rattle.uss_law_asking.proofs.Calm.{plan_of, accepted_of}
 use Rattle.uss_law_asking.proofs.Acts.{still, ticket_leaves_open, same_trials}
 use Rattle.uss_law_asking.proofs.Asked.{new_unfinished}
 use Rattle.uss_law_asking.proofs.Walk.{ComesOutAs, goes_on_by, acts_so, opens_so}
@@ -148,7 +149,7 @@ looks_so P s moment ask service served w sound calm next =
     let t1 = with_entry (Enters.TicketOpen o.job) (calling o.job (dss_call o.job (its_query ask)) (asked_values s moment ask)) in
     let made = Replies.TicketMade (the_new_ticket s moment ask) in
     let opens : turn_of s moment (Comes.Ask ask) ≡ t =
-    opens_so s moment ask orderly (legal_known s.book sound.legal) calm.plan calm.new calm.accepted ∙ ap (λ (x : Bool). with_entry e (asking (entered s e) o (first_kind x))) w in
+    opens_so s moment ask orderly (legal_known s.book sound.legal) (plan_of s moment ask service served calm) calm.new (accepted_of s moment ask service served calm) ∙ ap (λ (x : Bool). with_entry e (asking (entered s e) o (first_kind x))) w in
     let step = ticket_step s moment ask service served calm in
     let fit : fits put made ≡ true = subst (λ x. fits put x.0 ≡ true) step (step_fits service s.owner.name put calm.orderly) in
     let acts : turn_of s1 moment (Comes.Dss (record { job = o.job; ask = put }) made) ≡ t1 =
@@ -305,7 +306,7 @@ pub is_acceptable : (s : Standing) (moment : ℤ) (ask : FlightAsk) (service : S
     (ticket_number s.owner.number (opening_for s (clamped moment) ask).job)
 is_acceptable s moment ask service served alternative key to priority rounds proposals proposal sound calm w at few covered =
     let flight = flight_of s.owner (opening_for s (clamped moment) ask) in
-    let plans : ArePlans to priority rounds proposals = are_plans to priority rounds proposals (ap plan_refusal (sym w) ∙ calm.plan) in
+    let plans : ArePlans to priority rounds proposals = are_plans to priority rounds proposals (ap plan_refusal (sym w) ∙ (plan_of s moment ask service served calm)) in
     let plan = at_slice (λ (p : Proposal). IsTrue (is_plan to p.volumes p.off_nominal priority)) proposals alternative proposal plans.each at in
     let good = good_plan to proposal priority plan in
     let same = looking_base s moment ask sound in

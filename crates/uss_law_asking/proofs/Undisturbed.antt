@@ -29,7 +29,6 @@ pub in_empty_airspace : IsUndisturbed (stands_on new_book) now ask empty []
 unfolding all
 in_empty_airspace =
     record {
-      plan = refl;
       new = tt;
       accepted = refl;
       no_ticket = refl;
@@ -65,7 +64,6 @@ pub beside_another : IsUndisturbed (having_heard new_book) now second_ask other_
 unfolding all
 beside_another =
     record {
-      plan = refl;
       new = tt;
       accepted = refl;
       no_ticket = refl;
@@ -113,7 +111,6 @@ pub of_a_recorded_flight : IsUndisturbed (stands_on held_book) now flown_ask rec
 unfolding all
 of_a_recorded_flight =
     record {
-      plan = refl;
       new = omega arith;
       accepted = refl;
       no_ticket = refl;

@@ -27,6 +27,7 @@ use Rattle.uss_law_supplier.proofs.Waits.{awaiting_own}
 use Rattle.uss_law_supplier.proofs.Asking.{are_plans}
 use Rattle.uss_law_asking.specs.Exchange.{turn_of, last_turn}
 use Rattle.uss_law_asking.specs.Complete.{IsUndisturbed, is_new, IsRecordedBy, IsPutOutcome, IsOutcome, around, intents_around}
+use Rattle.uss_law_asking.proofs.Calm.{plan_of}
 use Rattle.uss_law_asking.proofs.Walk.{ComesOutAs, Settles, acts_so}
 use Rattle.uss_law_asking.proofs.Tries.{tries}
 use Rattle.uss_law_asking.proofs.Opens.{its_query, asked_values, looks_from, ticketed, found_there, ticketed_orderly, looking_unfinished, looks_so, first_at, is_acceptable, base_new}
@@ -49,7 +50,7 @@ attempts_so s moment ask service served k sound calm =
 unkeyed : (s : Standing) (moment : ℤ) (ask : FlightAsk) (service : Service) (served : List OperationalIntent) (to : State) (priority rounds : ℕ) (proposals : List Proposal) → ask.wish ≡ Put to priority rounds proposals → is_strategic to ≡ false
     → IsSound s.owner s.book s.values → IsUndisturbed s moment ask service served → ComesOutAs (IsRecordedBy (is_new s ask) 0) s.owner.name served s moment (Comes.Ask ask) service
 unkeyed s moment ask service served to priority rounds [] w k sound calm =
-    let plans : ArePlans to priority rounds [] = are_plans to priority rounds [] (ap plan_refusal (sym w) ∙ calm.plan) in
+    let plans : ArePlans to priority rounds [] = are_plans to priority rounds [] (ap plan_refusal (sym w) ∙ (plan_of s moment ask service served calm)) in
     let one = plans.some_proposals in
     absurd (omega (arith, one))
 unkeyed s moment ask service served to priority rounds (p ∷ ps) w k sound calm =

@@ -35,9 +35,10 @@ use Rattle.uss_law_duty.specs.Answers.{flight_of}
 use Rattle.uss_law_supplier.specs.Calls.{area_of}
 use Rattle.uss_law_supplier.specs.Turns.{Standing}
 use Rattle.uss_law_supplier.specs.Airspace.{held_as, is_own, choice_of}
-use Rattle.uss_law_supplier.specs.Asks.{plan_refusal, new_refusal, opening_for}
+use Rattle.uss_law_supplier.specs.Asks.{opening_for}
 use Rattle.uss_law_supplier.specs.Laws.{IsSound}
-use Rattle.uss_law_asking.specs.Exchange.{Exchanged, IsExchange, last_turn}
+use Rattle.uss_law_asking.specs.Refused.{ask_refusal}
+use Rattle.uss_law_asking.specs.Exchange.{Exchanged, IsExchange, AllFit, last_turn}
 use Rattle.uss_law_asking.specs.Exchange.Exchanged.{OfDss, OfPeer}
 
 -- the pair that its manager serves of a flight
@@ -71,9 +72,8 @@ intent_of s served r = if is_own s.owner r.reference then held_as s.owner r.refe
 -- nothing stands in the way of the request
 pub record IsUndisturbed (s : Standing) (moment : ℤ) (ask : FlightAsk) (service : Service) (served : List OperationalIntent) : Type 0 where
   -- the request is new, and isn't refused
-  pub plan : plan_refusal ask.wish ≡ None
   pub new : IfSome (last_of ask.flight s.book) (IsAfter ask)
-  pub accepted : new_refusal s.book (clamped moment) ask ≡ None
+  pub accepted : ask_refusal s.book (clamped moment) ask ≡ None
   -- its ticket is new to the discovery service, and its flight is neither retired nor another's
   pub no_ticket : ticket_of (ticket_number s.owner.number (length (openings s.book) + 1)) service ≡ None
   pub unused_ticket : is_one_of (ticket_number s.owner.number (length (openings s.book) + 1)) service.retired_tickets ≡ false
@@ -156,3 +156,7 @@ RequestsAreAnswered = (ask : FlightAsk) → IsAnswered ask
 
 abbrev pub RequestsComeOut : Type 0
 RequestsComeOut = (ask : FlightAsk) → ComesOut ask
+
+-- such replies fit their calls, so that what holds of replies that fit holds of these
+abbrev pub TheirRepliesFit : Type 0
+TheirRepliesFit = (client : List ℕ) (served : List OperationalIntent) (service : Service) (xs : List Exchanged) → IsOrderly service → AreByService client served service xs → AllFit xs
