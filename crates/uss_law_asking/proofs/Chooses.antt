@@ -50,7 +50,7 @@ use Rattle.uss_law_book.proofs.Known.{same_holding}
 use Rattle.uss_law_supplier.proofs.Asking.{are_plans}
 use Rattle.uss_law_supplier.proofs.Choosing.{chosen_is_free, blocked_is_by, key_is_short}
 use Rattle.uss_law_asking.specs.Exchange.{turn_of}
-use Rattle.uss_law_asking.specs.Complete.{IsUndisturbed, is_new, IsRecordedBy, IsOfChoice, intent_of, around, intents_around}
+use Rattle.uss_law_asking.specs.Complete.{IsUndisturbed, is_new, its_flight, IsRecordedBy, IsOfChoice, intent_of, around, intents_around}
 use Rattle.uss_law_asking.proofs.Calm.{plan_of}
 use Rattle.uss_law_asking.proofs.Walk.{ComesOutAs, stops_by}
 use Rattle.uss_law_asking.proofs.Covers.{in_all}
@@ -168,7 +168,7 @@ pub chooses_out : (s : Standing) (moment : ℤ) (ask : FlightAsk) (service : Ser
     → turn_of (with_values (looks_from s moment ask) u) moment event ≡ choosing (with_values (looks_from s moment ask) v) (opening_for s (clamped moment) ask)
     → pairs_in (with_values (looks_from s moment ask) v) (round_of (opening_for s (clamped moment) ask).job v) ≡ intents_around s moment ask service served
     → length (round_of (opening_for s (clamped moment) ask).job v).found ≤ 1024
-    → ComesOutAs (IsOfChoice (is_new s ask) (intents_around s moment ask service served) (choice_of s (opening_for s (clamped moment) ask) (intents_around s moment ask service served))) s.owner.name served (with_values (looks_from s moment ask) u) moment event
+    → ComesOutAs (IsOfChoice (is_new s ask) (its_flight s ask) (intents_around s moment ask service served) (choice_of s (opening_for s (clamped moment) ask) (intents_around s moment ask service served))) s.owner.name served (with_values (looks_from s moment ask) u) moment event
     (ticketed s moment ask service)
 chooses_out s moment ask service served u v event to priority rounds proposals w sound calm covers turn pairs few =
     go (choice_of s o intents) refl (turn ∙ ap (λ (x : List OperationalIntent). choosing_by t o x (choice_of t o x)) pairs ∙ ap (choosing_by t o intents) chosen)
@@ -202,14 +202,14 @@ chooses_out s moment ask service served u v event to priority rounds proposals w
     none_tried : trials_of o.job (looking_book s moment ask) ≡ []
     none_tried = looking_untried s moment ask sound
 
-    go : (c : Choice) → choice_of s o intents ≡ c → turn_of now moment event ≡ choosing_by t o intents c → ComesOutAs (IsOfChoice (is_new s ask) intents (choice_of s o intents)) s.owner.name served now moment event (ticketed s moment ask service)
+    go : (c : Choice) → choice_of s o intents ≡ c → turn_of now moment event ≡ choosing_by t o intents c → ComesOutAs (IsOfChoice (is_new s ask) (its_flight s ask) intents (choice_of s o intents)) s.owner.name served now moment event (ticketed s moment ask service)
     go (Chosen alternative) e q =
         let f = chosen_is_free _ proposals intents alternative (sym is_choice ∙ e) in
         let short : length (key_of intents) ≤ 1024 = (let l = key_is_short t (round_of o.job v) in let m = subst (λ x. length (key_of x) ≤ length (round_of o.job v).found) pairs l in omega (arith, m, few)) in
         let lacks = none_lacks s moment ask service served (f.proposal.volumes ++ f.proposal.off_nominal) calm covers
         (λ x h. subst (λ (y : Wish). Has (all_extents (proposals_of y)) x) (sym w) (in_all proposals f.proposal x (has_slice proposals alternative f.proposal f.at) h)) in
-        subst (λ c. ComesOutAs (IsOfChoice (is_new s ask) intents c) s.owner.name served now moment event (ticketed s moment ask service)) (sym e)
-        (subst (λ b. ComesOutAs (IsRecordedBy b alternative) s.owner.name served now moment event (ticketed s moment ask service)) (base_new s moment ask sound) (tries now v moment event served (ticketed s moment ask service) o alternative (key_of intents) to priority rounds proposals f.proposal q
+        subst (λ c. ComesOutAs (IsOfChoice (is_new s ask) (its_flight s ask) intents c) s.owner.name served now moment event (ticketed s moment ask service)) (sym e)
+        (subst (λ b. ComesOutAs (IsRecordedBy b (its_flight s ask) alternative) s.owner.name served now moment event (ticketed s moment ask service)) (base_new s moment ask sound) (tries now v moment event served (ticketed s moment ask service) o alternative (key_of intents) to priority rounds proposals f.proposal q
         (first_with (looks_from s moment ask) u o alternative to priority rounds proposals f.proposal (first_at s moment ask alternative to priority rounds proposals f.proposal sound w f.at))
         (ticketed_orderly s moment ask service served calm)
         (is_acceptable s moment ask service served alternative (key_of intents) to priority rounds proposals f.proposal sound calm w f.at short (first_false (is_strategic to) _ (rw lacks refl)))))
@@ -220,6 +220,6 @@ chooses_out s moment ask service served u v event to priority rounds proposals w
         let end = Ends.Conflict p.reference.flight p.reference.manager rule in
         let ends : turn_of now moment event ≡ ending t o end = q ∙ ap (blocked_by t o rule) b.at ∙ ap (giving_up_after t o end) none_tried in
         let said = ap (λ (x : Turn). x.said) ends ∙ ap said_of (kept_end s.owner o (looking_book s moment ask) end (looking_unfinished s moment ask sound).unclosed) in
-        subst (λ c. ComesOutAs (IsOfChoice (is_new s ask) intents c) s.owner.name served now moment event (ticketed s moment ask service)) (sym e)
-        (stops_by (IsOfChoice (is_new s ask) intents (Blocked place rule)) s.owner.name served now moment event (ticketed s moment ask service) (Says.Answer (Answers.Conflict p.reference.flight p.reference.manager rule)) said refl
+        subst (λ c. ComesOutAs (IsOfChoice (is_new s ask) (its_flight s ask) intents c) s.owner.name served now moment event (ticketed s moment ask service)) (sym e)
+        (stops_by (IsOfChoice (is_new s ask) (its_flight s ask) intents (Blocked place rule)) s.owner.name served now moment event (ticketed s moment ask service) (Says.Answer (Answers.Conflict p.reference.flight p.reference.manager rule)) said refl
         (rw b.at refl))

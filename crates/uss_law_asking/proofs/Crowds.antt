@@ -33,7 +33,7 @@ use Rattle.uss_law_supplier.specs.Asks.{opening_for}
 use Rattle.uss_law_supplier.specs.Laws.{IsSound}
 use Rattle.uss_law_supplier.proofs.Waits.{awaiting_own}
 use Rattle.uss_law_asking.specs.Exchange.{Exchanged, IsExchange, turn_of, last_turn}
-use Rattle.uss_law_asking.specs.Complete.{IsUndisturbed, is_new, IsKeyedOutcome, IsPutOutcome, IsOutcome, around, intents_around, AreByService}
+use Rattle.uss_law_asking.specs.Complete.{IsUndisturbed, is_new, its_flight, IsKeyedOutcome, IsPutOutcome, IsOutcome, around, intents_around, AreByService}
 use Rattle.uss_law_asking.proofs.Walk.{ComesOutAs, acts_so, stops_by}
 use Rattle.uss_law_asking.proofs.Opens.{its_query, asked_values, looks_from, ticketed, found_there, ticketed_orderly, looking_unfinished, looks_so}
 
@@ -118,6 +118,6 @@ crowded_plans_come_out ask s moment service served k many sound calm = go ask.wi
     go End w h = cc
     go (Put to priority rounds proposals) w h =
         subst (λ (x : Wish). ComesOutAs (IsOutcome s moment ask service served x) s.owner.name served s moment (Comes.Ask ask) service) (sym w)
-        (subst (λ (b : Bool). ComesOutAs (IsPutOutcome (is_new s ask) b (length (around s moment ask service)) (intents_around s moment ask service served) (choice_of s (opening_for s (clamped moment) ask) (intents_around s moment ask service served))) s.owner.name served s moment (Comes.Ask ask) service) (sym h)
-        (subst (λ (b : Bool). ComesOutAs (IsKeyedOutcome (is_new s ask) b (length (around s moment ask service)) (intents_around s moment ask service served) (choice_of s (opening_for s (clamped moment) ask) (intents_around s moment ask service served))) s.owner.name served s moment (Comes.Ask ask) service) (sym test)
+        (subst (λ (b : Bool). ComesOutAs (IsPutOutcome (is_new s ask) (its_flight s ask) b (length (around s moment ask service)) (intents_around s moment ask service served) (choice_of s (opening_for s (clamped moment) ask) (intents_around s moment ask service served))) s.owner.name served s moment (Comes.Ask ask) service) (sym h)
+        (subst (λ (b : Bool). ComesOutAs (IsKeyedOutcome (is_new s ask) (its_flight s ask) b (length (around s moment ask service)) (intents_around s moment ask service served) (choice_of s (opening_for s (clamped moment) ask) (intents_around s moment ask service served))) s.owner.name served s moment (Comes.Ask ask) service) (sym test)
         (crowds s moment ask service served k test sound calm)))

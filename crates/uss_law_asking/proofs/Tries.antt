@@ -128,9 +128,9 @@ attempt_is s o alternative key to priority rounds proposals proposal f =
 -- what landed is entered, and said
 
 recorded_so : (flight tag alternative : ℕ) (ovn : List ℕ) (version : ℕ) (previous : Option (List ℕ))
-    → IsRecordedBy (is_none previous) alternative (said_of (cond (is_none previous) (Some (Answers.Planned flight tag alternative ovn version)) (Some (Answers.Changed flight tag alternative ovn version))))
-recorded_so flight tag alternative ovn version None = refl
-recorded_so flight tag alternative ovn version (Some p) = refl
+    → IsRecordedBy (is_none previous) flight alternative (said_of (cond (is_none previous) (Some (Answers.Planned flight tag alternative ovn version)) (Some (Answers.Changed flight tag alternative ovn version))))
+recorded_so flight tag alternative ovn version None = (refl, refl)
+recorded_so flight tag alternative ovn version (Some p) = (refl, refl)
 
 says_so : (flight tag alternative : ℕ) (ovn : List ℕ) (version : ℕ) (previous : Option (List ℕ))
     → says_something (said_of (cond (is_none previous) (Some (Answers.Planned flight tag alternative ovn version)) (Some (Answers.Changed flight tag alternative ovn version)))) ≡ true
@@ -155,7 +155,7 @@ lands : (s : Standing) (moment : ℤ) (o : Opening) (served : List OperationalIn
     (r : Reference) (ovn : List ℕ) (owed : List Subscriber) → IsOpenJob s.book o → trial_of t.tag s.book ≡ Some t → 1 ≤ t.tag → t.tag < 2 ^ 64
     → awaited_of o.job s.values ≡ Some (dss_call o.job (Asks.Put flight previous extents key state (tagged_base s.owner.base t.tag) ticket))
     → fits (Asks.Put flight previous extents key state (tagged_base s.owner.base t.tag) ticket) (Replies.Landed r owed) ≡ true → r.base ≡ tagged_base s.owner.base t.tag → r.ovn ≡ Some ovn
-    → ComesOutAs (IsRecordedBy (is_none t.previous) t.alternative) s.owner.name served s moment (Comes.Dss (record { job = o.job; ask = Asks.Put flight previous extents key state (tagged_base s.owner.base t.tag) ticket }) (Replies.Landed r owed)) service
+    → ComesOutAs (IsRecordedBy (is_none t.previous) (flight_of s.owner o) t.alternative) s.owner.name served s moment (Comes.Dss (record { job = o.job; ask = Asks.Put flight previous extents key state (tagged_base s.owner.base t.tag) ticket }) (Replies.Landed r owed)) service
 lands s moment o served service t flight previous extents key state ticket r ovn owed u found low high waits fit base shown =
     let ask = Asks.Put flight previous extents key state (tagged_base s.owner.base t.tag) ticket in
     let event = Comes.Dss (record { job = o.job; ask = ask }) (Replies.Landed r owed) in
@@ -163,12 +163,12 @@ lands s moment o served service t flight previous extents key state ticket r ovn
     let acts : turn_of s moment event ≡ recording s o owed (Some r) = acts_so s moment o ask (Replies.Landed r owed) Waits.Put u waits refl fit in
     let turn : turn_of s moment event ≡ holding_as s o owed r (Some t.tag) (Some ovn) = acts ∙ ap (λ x. holding_as s o owed r x r.ovn) tag ∙ ap (λ x. holding_as s o owed r (Some t.tag) x) shown in
     let said = ap (λ (x : Turn). x.said) turn ∙ ap said_of (kept_record s.owner o s.book t ovn r.version owed u.unclosed found) in
-    stops_by (IsRecordedBy (is_none t.previous) t.alternative) s.owner.name served s moment event service _ said (says_so (flight_of s.owner o) t.tag t.alternative ovn r.version t.previous) (recorded_so (flight_of s.owner o) t.tag t.alternative ovn r.version t.previous)
+    stops_by (IsRecordedBy (is_none t.previous) (flight_of s.owner o) t.alternative) s.owner.name served s moment event service _ said (says_so (flight_of s.owner o) t.tag t.alternative ovn r.version t.previous) (recorded_so (flight_of s.owner o) t.tag t.alternative ovn r.version t.previous)
 
 pub tries : (s : Standing) (v : Values) (moment : ℤ) (event : Event) (served : List OperationalIntent) (service : Service) (o : Opening) (alternative : ℕ) (key : List (List ℕ)) (to : State) (priority rounds : ℕ) (proposals : List Proposal) (proposal : Proposal)
     → turn_of s moment event ≡ attempting (with_values s v) o alternative key → IsFirst s o alternative to priority rounds proposals proposal → Dss.IsOrderly service
     → IsAcceptable service s.owner.name (flight_of s.owner o) (base_of o.ask.flight s.book) (proposal.volumes ++ proposal.off_nominal) key to (ticket_number s.owner.number o.job)
-    → ComesOutAs (IsRecordedBy (is_none (base_of o.ask.flight s.book)) alternative) s.owner.name served s moment event service
+    → ComesOutAs (IsRecordedBy (is_none (base_of o.ask.flight s.book)) (flight_of s.owner o) alternative) s.owner.name served s moment event service
 tries s v moment event served service o alternative key to priority rounds proposals proposal turn f orderly a =
     let w = with_values s v in
     let e = pending s o alternative key in
@@ -181,7 +181,7 @@ tries s v moment event served service o alternative key to priority rounds propo
     let step = accepts service s.owner.name (flight_of s.owner o) (base_of o.ask.flight s.book) (proposal.volumes ++ proposal.off_nominal) key to (tagged_base s.owner.base t.tag) (ticket_number s.owner.number o.job) a in
     let fit = subst (λ x. fits put x.0 ≡ true) step (step_fits service s.owner.name put orderly) in
     let n = f.fits in
-    goes_on_by (IsRecordedBy (is_none (base_of o.ask.flight s.book)) alternative) s.owner.name served s moment event service call then made refl refl
-    (subst (λ x. ComesOutAs (IsRecordedBy (is_none (base_of o.ask.flight s.book)) alternative) s.owner.name served (stands_then s then) moment (Comes.Dss call x.0) x.1) (sym step)
+    goes_on_by (IsRecordedBy (is_none (base_of o.ask.flight s.book)) (flight_of s.owner o) alternative) s.owner.name served s moment event service call then made refl refl
+    (subst (λ x. ComesOutAs (IsRecordedBy (is_none (base_of o.ask.flight s.book)) (flight_of s.owner o) alternative) s.owner.name served (stands_then s then) moment (Comes.Dss call x.0) x.1) (sym step)
     (lands (stands_then s then) moment o served _ t (flight_of s.owner o) (base_of o.ask.flight s.book) (proposal.volumes ++ proposal.off_nominal) key to (ticket_number s.owner.number o.job) _ _ _
     (still s o e f.unfinished (pending_leaves_open s o alternative key)) (trial_is s o alternative key f.tags) (omega arith) n (awaiting_own o.job (dss_call o.job put) v) fit refl refl))

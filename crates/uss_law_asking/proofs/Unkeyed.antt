@@ -26,7 +26,7 @@ use Rattle.uss_law_supplier.specs.Laws.{IsSound}
 use Rattle.uss_law_supplier.proofs.Waits.{awaiting_own}
 use Rattle.uss_law_supplier.proofs.Asking.{are_plans}
 use Rattle.uss_law_asking.specs.Exchange.{turn_of, last_turn}
-use Rattle.uss_law_asking.specs.Complete.{IsUndisturbed, is_new, IsRecordedBy, IsPutOutcome, IsOutcome, around, intents_around}
+use Rattle.uss_law_asking.specs.Complete.{IsUndisturbed, is_new, its_flight, IsRecordedBy, IsPutOutcome, IsOutcome, around, intents_around}
 use Rattle.uss_law_asking.proofs.Calm.{plan_of}
 use Rattle.uss_law_asking.proofs.Walk.{ComesOutAs, Settles, acts_so}
 use Rattle.uss_law_asking.proofs.Tries.{tries}
@@ -48,7 +48,7 @@ attempts_so s moment ask service served k sound calm =
     ∙ ap (λ (x : Bool). carry_out t o reply (on_found x (length (others (flight_of s.owner o) (found_by reply))) (is_left s.owner t.values.heard (round_of o.job t.values)))) k
 
 unkeyed : (s : Standing) (moment : ℤ) (ask : FlightAsk) (service : Service) (served : List OperationalIntent) (to : State) (priority rounds : ℕ) (proposals : List Proposal) → ask.wish ≡ Put to priority rounds proposals → is_strategic to ≡ false
-    → IsSound s.owner s.book s.values → IsUndisturbed s moment ask service served → ComesOutAs (IsRecordedBy (is_new s ask) 0) s.owner.name served s moment (Comes.Ask ask) service
+    → IsSound s.owner s.book s.values → IsUndisturbed s moment ask service served → ComesOutAs (IsRecordedBy (is_new s ask) (its_flight s ask) 0) s.owner.name served s moment (Comes.Ask ask) service
 unkeyed s moment ask service served to priority rounds [] w k sound calm =
     let plans : ArePlans to priority rounds [] = are_plans to priority rounds [] (ap plan_refusal (sym w) ∙ (plan_of s moment ask service served calm)) in
     let one = plans.some_proposals in
@@ -57,8 +57,8 @@ unkeyed s moment ask service served to priority rounds (p ∷ ps) w k sound calm
     let o = opening_for s (clamped moment) ask in
     let s2 = looks_from s moment ask in
     let reply = found_there s ask service in
-    looks_so (IsRecordedBy (is_new s ask) 0) s moment ask service served (ap is_end w) sound calm
-    (subst (λ b. ComesOutAs (IsRecordedBy b 0) s.owner.name served s2 moment (Comes.Dss (record { job = o.job; ask = its_query ask }) reply) (ticketed s moment ask service)) (base_new s moment ask sound) (tries s2 (round_by_dss s2 o reply) moment (Comes.Dss (record { job = o.job; ask = its_query ask }) reply) served (ticketed s moment ask service) o 0 [] to priority rounds (p ∷ ps) p
+    looks_so (IsRecordedBy (is_new s ask) (its_flight s ask) 0) s moment ask service served (ap is_end w) sound calm
+    (subst (λ b. ComesOutAs (IsRecordedBy b (its_flight s ask) 0) s.owner.name served s2 moment (Comes.Dss (record { job = o.job; ask = its_query ask }) reply) (ticketed s moment ask service)) (base_new s moment ask sound) (tries s2 (round_by_dss s2 o reply) moment (Comes.Dss (record { job = o.job; ask = its_query ask }) reply) served (ticketed s moment ask service) o 0 [] to priority rounds (p ∷ ps) p
     (attempts_so s moment ask service served (ap keeps_key w ∙ k) sound calm) (first_at s moment ask 0 to priority rounds (p ∷ ps) p sound w refl) (ticketed_orderly s moment ask service served calm)
     (is_acceptable s moment ask service served 0 [] to priority rounds (p ∷ ps) p sound calm w refl (omega arith) (rw k refl))))
 
@@ -69,5 +69,5 @@ requests_without_key_come_out ask k = go ask.wish refl k
     go End w k = ends_come_out ask w
     go (Put to priority rounds proposals) w k = λ s moment service served sound calm.
         subst (λ (x : Wish). ComesOutAs (IsOutcome s moment ask service served x) s.owner.name served s moment (Comes.Ask ask) service) (sym w)
-        (subst (λ (b : Bool). ComesOutAs (IsPutOutcome (is_new s ask) b (length (around s moment ask service)) (intents_around s moment ask service served) (choice_of s (opening_for s (clamped moment) ask) (intents_around s moment ask service served))) s.owner.name served s moment (Comes.Ask ask) service) (sym k)
+        (subst (λ (b : Bool). ComesOutAs (IsPutOutcome (is_new s ask) (its_flight s ask) b (length (around s moment ask service)) (intents_around s moment ask service served) (choice_of s (opening_for s (clamped moment) ask) (intents_around s moment ask service served))) s.owner.name served s moment (Comes.Ask ask) service) (sym k)
         (unkeyed s moment ask service served to priority rounds proposals w k sound calm))

@@ -43,7 +43,7 @@ use Rattle.uss_law_supplier.proofs.Waits.{round_own, awaiting_own, awaiting_roun
 use Rattle.uss_law_supplier.proofs.Fits.{heard_in_round}
 use Rattle.uss_law_supplier.proofs.Acting.{next_step}
 use Rattle.uss_law_asking.specs.Exchange.{turn_of, last_turn}
-use Rattle.uss_law_asking.specs.Complete.{IsUndisturbed, is_new, IsOfChoice, IsKeyedOutcome, IsPutOutcome, IsOutcome, served_of, served_reply, around, intents_around, RequestsAreAnswered, RequestsComeOut}
+use Rattle.uss_law_asking.specs.Complete.{IsUndisturbed, is_new, its_flight, IsOfChoice, IsKeyedOutcome, IsPutOutcome, IsOutcome, served_of, served_reply, around, intents_around, RequestsAreAnswered, RequestsComeOut}
 use Rattle.uss_law_asking.proofs.Budget.{left}
 use Rattle.uss_law_asking.proofs.Acts.{one_fewer}
 use Rattle.uss_law_asking.proofs.Bounded.{left_found}
@@ -75,7 +75,7 @@ record IsPlan (s : Standing) (moment : ℤ) (ask : FlightAsk) (service : Service
 
 abbrev Out : Standing → ℤ → FlightAsk → Service → List OperationalIntent → Values → Event → Type 0
 Out s moment ask service served u event =
-    ComesOutAs (IsOfChoice (is_new s ask) (intents_around s moment ask service served) (choice_of s (opening_for s (clamped moment) ask) (intents_around s moment ask service served))) s.owner.name served (with_values (looks_from s moment ask) u) moment event
+    ComesOutAs (IsOfChoice (is_new s ask) (its_flight s ask) (intents_around s moment ask service served) (choice_of s (opening_for s (clamped moment) ask) (intents_around s moment ask service served))) s.owner.name served (with_values (looks_from s moment ask) u) moment event
     (ticketed s moment ask service)
 
 abbrev round_in : Standing → ℤ → FlightAsk → Values → Round
@@ -212,7 +212,7 @@ one s moment ask service served u v event c l rec (Some x) e q =
     let call = Calls.Details o.job x.flight x.manager x.base in
     let v1 = asked_for s moment ask v x in
     let v2 = hearing (Heard n.pair ∷ []) v1 in
-    let P = IsOfChoice (is_new s ask) (intents_around s moment ask service served) (choice_of s o (intents_around s moment ask service served)) in
+    let P = IsOfChoice (is_new s ask) (its_flight s ask) (intents_around s moment ask service served) (choice_of s o (intents_around s moment ask service served)) in
     let its = served_is n.it.reference.flight n.it.reference.manager served n.pair n.served_so in
     let serves : served_of x.flight x.manager served ≡ Some n.pair = ap (λ f. served_of f x.manager served) n.flight_is ∙ ap (λ m. served_of n.it.reference.flight m served) n.manager_is ∙ n.served_so in
     let fit : peer_fits call (Peers.Served n.pair) ≡ true =
@@ -286,14 +286,14 @@ first_hearing s moment ask service served c =
         (c.calm.heard_no_newer r q i other found, c.calm.heard_same r q i other found)
 
 keyed : (s : Standing) (moment : ℤ) (ask : FlightAsk) (service : Service) (served : List OperationalIntent) → keeps_key ask.wish ≡ true → nat_lt 1024 (length (around s moment ask service)) ≡ false → IsPlan s moment ask service served
-    → ComesOutAs (IsOfChoice (is_new s ask) (intents_around s moment ask service served) (choice_of s (opening_for s (clamped moment) ask) (intents_around s moment ask service served))) s.owner.name served s moment (Comes.Ask ask) service
+    → ComesOutAs (IsOfChoice (is_new s ask) (its_flight s ask) (intents_around s moment ask service served) (choice_of s (opening_for s (clamped moment) ask) (intents_around s moment ask service served))) s.owner.name served s moment (Comes.Ask ask) service
 keyed s moment ask service served k few c =
     let o = opening_for s (clamped moment) ask in
     let s2 = looks_from s moment ask in
     let reply = found_there s ask service in
     let v = round_by_dss s2 o reply in
     let turn = finds_so s moment ask service served false k few c.sound c.calm ∙ by_next (with_values s2 v) o reply (next_unheard s.owner v.heard (round_of o.job v)) refl in
-    looks_so (IsOfChoice (is_new s ask) (intents_around s moment ask service served) (choice_of s o (intents_around s moment ask service served))) s moment ask service served (key_is_no_end ask.wish k) c.sound c.calm
+    looks_so (IsOfChoice (is_new s ask) (its_flight s ask) (intents_around s moment ask service served) (choice_of s o (intents_around s moment ask service served))) s moment ask service served (key_is_no_end ask.wish k) c.sound c.calm
     (hears_all (left (round_of o.job v)) s moment ask service served s2.values v (Comes.Dss (record { job = o.job; ask = its_query ask }) reply) c (omega arith) (first_hearing s moment ask service served c) turn)
 
 requests_settle : (ask : FlightAsk) → Settles ask
@@ -310,8 +310,8 @@ requests_settle ask s moment service served sound calm = at_key (keeps_key ask.w
     at_wish (Put to priority rounds proposals) w k few =
         let c : IsPlan s moment ask service served = record { to = to; priority = priority; rounds = rounds; proposals = proposals; wish = w; sound = sound; calm = calm; covers = area_covers ask service; few = not_less 1024 (length (around s moment ask service)) few } in
         subst (λ (x : Wish). ComesOutAs (IsOutcome s moment ask service served x) s.owner.name served s moment (Comes.Ask ask) service) (sym w)
-        (subst (λ (b : Bool). ComesOutAs (IsPutOutcome (is_new s ask) b (length (around s moment ask service)) pairs (choice_of s (opening_for s (clamped moment) ask) pairs)) s.owner.name served s moment (Comes.Ask ask) service) (sym k)
-        (subst (λ (b : Bool). ComesOutAs (IsKeyedOutcome (is_new s ask) b (length (around s moment ask service)) pairs (choice_of s (opening_for s (clamped moment) ask) pairs)) s.owner.name served s moment (Comes.Ask ask) service) (sym few)
+        (subst (λ (b : Bool). ComesOutAs (IsPutOutcome (is_new s ask) (its_flight s ask) b (length (around s moment ask service)) pairs (choice_of s (opening_for s (clamped moment) ask) pairs)) s.owner.name served s moment (Comes.Ask ask) service) (sym k)
+        (subst (λ (b : Bool). ComesOutAs (IsKeyedOutcome (is_new s ask) (its_flight s ask) b (length (around s moment ask service)) pairs (choice_of s (opening_for s (clamped moment) ask) pairs)) s.owner.name served s moment (Comes.Ask ask) service) (sym few)
         (keyed s moment ask service served (ap keeps_key w ∙ k) few c)))
 
     at_many : (b : Bool) → many ≡ b → keeps_key ask.wish ≡ true → ComesOutAs (IsOutcome s moment ask service served ask.wish) s.owner.name served s moment (Comes.Ask ask) service

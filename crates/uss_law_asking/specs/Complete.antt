@@ -1,7 +1,7 @@
 -- What a new request comes to where nobody disturbs it: the discovery service replies by its rules and nobody else moves it, other suppliers
 -- serve what is recorded, and no call fails. The choice is then the best one against what is recorded. This project's own.
 use Rattle.std.specs.Prelude.{ℕ, ◌+◌, ◌<◌, ◌≤◌, ◌≡◌, ℤ, Bool, true, false, not, ◌&&◌, ◌==◌, nat_lt, List, [], ◌∷◌, length, filter, filter_map, find, slice_get, Option, Some, None, IfSome, is_none, if◌then◌else◌}
-use Rattle.uss_intent.specs.Identifiers.{ticket_number}
+use Rattle.uss_intent.specs.Identifiers.{flight_number, ticket_number}
 use Rattle.uss_intent.specs.Same.{same_text}
 use Rattle.uss_intent.specs.declared.records.Recorded.{Recorded}
 use Rattle.uss_intent.specs.States.{is_strategic}
@@ -69,6 +69,10 @@ pub record IsPairOf (r : Recorded) (p : OperationalIntent) : Type 0 where
 abbrev pub intent_of : Standing → List OperationalIntent → Recorded → Option OperationalIntent
 intent_of s served r = if is_own s.owner r.reference then held_as s.owner r.reference.flight s.book else served_of r.reference.flight r.reference.manager served
 
+-- the identifier of the request's flight
+abbrev pub its_flight : Standing → FlightAsk → ℕ
+its_flight s ask = flight_number s.owner.number ask.flight
+
 -- nothing stands in the way of the request
 pub record IsUndisturbed (s : Standing) (moment : ℤ) (ask : FlightAsk) (service : Service) (served : List OperationalIntent) : Type 0 where
   -- the request is new, and isn't refused
@@ -77,8 +81,8 @@ pub record IsUndisturbed (s : Standing) (moment : ℤ) (ask : FlightAsk) (servic
   -- its ticket is new to the discovery service, and its flight is neither retired nor another's
   pub no_ticket : ticket_of (ticket_number s.owner.number (length (openings s.book) + 1)) service ≡ None
   pub unused_ticket : is_one_of (ticket_number s.owner.number (length (openings s.book) + 1)) service.retired_tickets ≡ false
-  pub alive : is_one_of (flight_of s.owner (opening_for s (clamped moment) ask)) service.retired_flights ≡ false
-  pub own : IfSome (recorded_of (flight_of s.owner (opening_for s (clamped moment) ask)) service) (λ r. r.reference.manager ≡ s.owner.name)
+  pub alive : is_one_of (its_flight s ask) service.retired_flights ≡ false
+  pub own : IfSome (recorded_of (its_flight s ask) service) (λ r. r.reference.manager ≡ s.owner.name)
   -- the service's state is one that it comes to, and it has room
   pub orderly : IsOrderly service
   pub few_references : length service.references < 4096
@@ -97,7 +101,7 @@ pub record IsUndisturbed (s : Standing) (moment : ℤ) (ask : FlightAsk) (servic
 
 -- the recorded references of other flights that share with the ticket's area
 abbrev pub around : Standing → ℤ → FlightAsk → Service → List Recorded
-around s moment ask service = filter (λ (r : Recorded). not (r.reference.flight == flight_of s.owner (opening_for s (clamped moment) ask))) (found_in (area_of ask.wish) service.references)
+around s moment ask service = filter (λ (r : Recorded). not (r.reference.flight == its_flight s ask)) (found_in (area_of ask.wish) service.references)
 
 -- with their intents
 abbrev pub intents_around : Standing → ℤ → FlightAsk → Service → List OperationalIntent → List OperationalIntent
@@ -108,35 +112,35 @@ abbrev pub is_new : Standing → FlightAsk → Bool
 is_new s ask = is_none (held ask.flight s.book)
 
 -- the flight is recorded by this alternative: planned where it is new, and changed where it isn't
-abbrev pub IsRecordedBy : Bool → ℕ → Said → Type 0
-IsRecordedBy true alternative (Says.Answer (Answers.Planned flight tag by ovn version)) = by ≡ alternative
-IsRecordedBy false alternative (Says.Answer (Answers.Changed flight tag by ovn version)) = by ≡ alternative
-IsRecordedBy new alternative _ = ⊥
+abbrev pub IsRecordedBy : Bool → ℕ → ℕ → Said → Type 0
+IsRecordedBy true flight alternative (Says.Answer (Answers.Planned f tag by ovn version)) = (f ≡ flight) × (by ≡ alternative)
+IsRecordedBy false flight alternative (Says.Answer (Answers.Changed f tag by ovn version)) = (f ≡ flight) × (by ≡ alternative)
+IsRecordedBy new flight alternative _ = ⊥
 
 -- it stands against the flight by this rule
 abbrev pub IsConflictWith : Verdict → Option OperationalIntent → Said → Type 0
 IsConflictWith rule None said = ⊥
 IsConflictWith rule (Some p) said = said ≡ Says.Answer (Answers.Conflict p.reference.flight p.reference.manager rule)
 
-abbrev pub IsOfChoice : Bool → List OperationalIntent → Choice → Said → Type 0
-IsOfChoice new pairs (Chosen alternative) said = IsRecordedBy new alternative said
-IsOfChoice new pairs (Blocked place rule) said = IsConflictWith rule (slice_get pairs place) said
+abbrev pub IsOfChoice : Bool → ℕ → List OperationalIntent → Choice → Said → Type 0
+IsOfChoice new flight pairs (Chosen alternative) said = IsRecordedBy new flight alternative said
+IsOfChoice new flight pairs (Blocked place rule) said = IsConflictWith rule (slice_get pairs place) said
 
 -- a wish that is held against others is crowded out, or comes to the best choice
-abbrev pub IsKeyedOutcome : Bool → Bool → ℕ → List OperationalIntent → Choice → Said → Type 0
-IsKeyedOutcome new true count pairs c said = said ≡ Says.Answer (Answers.Crowded count)
-IsKeyedOutcome new false count pairs c said = IsOfChoice new pairs c said
+abbrev pub IsKeyedOutcome : Bool → ℕ → Bool → ℕ → List OperationalIntent → Choice → Said → Type 0
+IsKeyedOutcome new flight true count pairs c said = said ≡ Says.Answer (Answers.Crowded count)
+IsKeyedOutcome new flight false count pairs c said = IsOfChoice new flight pairs c said
 
-abbrev pub IsPutOutcome : Bool → Bool → ℕ → List OperationalIntent → Choice → Said → Type 0
-IsPutOutcome new true count pairs c said = IsKeyedOutcome new (nat_lt 1024 count) count pairs c said
-IsPutOutcome new false count pairs c said = IsRecordedBy new 0 said
+abbrev pub IsPutOutcome : Bool → ℕ → Bool → ℕ → List OperationalIntent → Choice → Said → Type 0
+IsPutOutcome new flight true count pairs c said = IsKeyedOutcome new flight (nat_lt 1024 count) count pairs c said
+IsPutOutcome new flight false count pairs c said = IsRecordedBy new flight 0 said
 
 -- what the request comes to
 abbrev pub IsOutcome : Standing → ℤ → FlightAsk → Service → List OperationalIntent → Wish → Said → Type 0
 IsOutcome s moment ask service served (Put to priority rounds proposals) said =
-    IsPutOutcome (is_new s ask) (is_strategic to) (length (around s moment ask service)) (intents_around s moment ask service served)
+    IsPutOutcome (is_new s ask) (its_flight s ask) (is_strategic to) (length (around s moment ask service)) (intents_around s moment ask service served)
     (choice_of s (opening_for s (clamped moment) ask) (intents_around s moment ask service served)) said
-IsOutcome s moment ask service served End said = said ≡ Says.Answer (Answers.Ended (flight_of s.owner (opening_for s (clamped moment) ask)))
+IsOutcome s moment ask service served End said = said ≡ Says.Answer (Answers.Ended (its_flight s ask))
 
 -- there is a whole exchange from the request on
 abbrev pub IsAnswered : FlightAsk → Type 0
