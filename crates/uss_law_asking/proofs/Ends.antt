@@ -1,5 +1,5 @@
 -- That the end of a flight comes to Ended, where nobody disturbs it.
-use Rattle.std.proofs.Common.{ℕ, ℤ, ◌==◌, ◌≡◌, Bool, true, false, cond, not, ◌&&◌, is_none, List, [], ◌∷◌, ◌++◌, refl, ap, sym, subst, ◌∙◌, Option, Some, None}
+use Rattle.std.proofs.Common.{ℕ, ℤ, ◌==◌, ◌≡◌, Bool, true, false, cond, not, ◌&&◌, is_none, List, [], ◌∷◌, ◌++◌, refl, ap, sym, subst, ◌∙◌, Option, Some, None, IfSome}
 use Rattle.std.specs.List.{find, list_any}
 use Rattle.std.specs.Option.{option_map, option_or}
 use Rattle.std.proofs.lemmas.List.{append-nil}
@@ -10,6 +10,7 @@ use Rattle.uss_intent.specs.declared.records.Subscriber.{Subscriber}
 use Rattle.uss_intent.specs.declared.calls.DssAsk.TheVariants as Asks
 use Rattle.uss_intent.specs.declared.calls.DssReply.TheVariants as Replies
 use Rattle.uss_intent.specs.Numbers.{is_one_of}
+use Rattle.uss_intent.specs.Identifiers.{flight_number}
 use Rattle.uss_law_duty.specs.Duties.{clamped}
 use Rattle.uss_event.specs.Pairs.{OperationalIntent}
 use Rattle.uss_event.specs.declared.asks.Wish.{Wish}
@@ -27,13 +28,15 @@ use Rattle.uss_event.specs.declared.events.Said.{Said}
 use Rattle.uss_event.specs.declared.events.Said.TheVariants as Says
 use Rattle.uss_event.specs.declared.events.Event.TheVariants as Comes
 use Rattle.uss_law_dss.specs.Fits.{fits}
+use Rattle.uss_law_dss.specs.Orderly as Dss
 use Rattle.uss_law_dss.specs.Service.{Service, has_ovn, recorded_of}
 use Rattle.uss_law_dss.specs.Step.{service_step, after_remove, subscribers}
 use Rattle.uss_law_dss.proofs.EachFits.{step_fits}
 use Rattle.uss_law_dss.proofs.Tests.{equal_number, equal_bytes, neither}
 use Rattle.uss_law_book.specs.Lists.{Opening, Holding, Closing, holdings, endings}
-use Rattle.uss_law_book.specs.Readings.{is_held, is_done, is_closed, base_of, holding, holding_of, ending_of}
+use Rattle.uss_law_book.specs.Readings.{is_held, is_done, is_closed, last_of, base_of, holding, holding_of, ending_of}
 use Rattle.uss_law_book.specs.Attempts.{held, held_by}
+use Rattle.uss_law_book.specs.Legal.{IsAfter}
 use Rattle.uss_law_book.proofs.Entries.{holdings_append, endings_append}
 use Rattle.uss_law_book.proofs.EachOrderly.{legal_is_orderly}
 use Rattle.uss_law_duty.specs.Answers.{flight_of, by_end, kept_answer}
@@ -41,7 +44,7 @@ use Rattle.uss_law_supplier.specs.declared.duties.Awaited.TheVariants as Waits
 use Rattle.uss_law_supplier.specs.Values.{awaited_of}
 use Rattle.uss_law_supplier.specs.Turns.{Standing, Turn, said_of, dss_call, calling, entered, with_entry}
 use Rattle.uss_law_supplier.specs.Jobs.{is_end, making, asking, closing, ending}
-use Rattle.uss_law_supplier.specs.Asks.{begins_flight, busy, ended, unknown, new_refusal, opening_entry, opening_for}
+use Rattle.uss_law_supplier.specs.Asks.{plan_refusal, begins_flight, busy, ended, unknown, new_refusal, opening_entry, opening_for}
 use Rattle.uss_law_supplier.specs.Laws.{IsSound}
 use Rattle.uss_law_book.proofs.Known.{legal_known, same_holding}
 use Rattle.uss_law_supplier.proofs.Waits.{awaiting_own}
@@ -49,7 +52,7 @@ use Rattle.uss_law_supplier.proofs.Onward.{IsOpenJob}
 use Rattle.uss_law_supplier.proofs.Asking.{first_kind, parts_none}
 use Rattle.uss_law_asking.specs.Exchange.{turn_of, stands_then, last_turn}
 use Rattle.uss_law_asking.specs.Complete.{IsUndisturbed, IsOutcome}
-use Rattle.uss_law_asking.proofs.Calm.{plan_of, accepted_of}
+use Rattle.uss_law_asking.proofs.Calm.{accepted_of}
 use Rattle.uss_law_asking.proofs.Asked.{new_unfinished}
 use Rattle.uss_law_asking.proofs.Walk.{ComesOutAs, Settles, goes_on_by, stops_by, acts_so, opens_so}
 use Rattle.uss_law_asking.proofs.Recorded.{IsRecorded, held_recorded}
@@ -131,9 +134,25 @@ removed s moment ask o service served flight ovn r subscribers w u waits fit =
     let said = ap (λ (t : Turn). t.said) ends ∙ ap said_of (kept_end s.owner o s.book (Ends.Ended subscribers) u.unclosed) in
     stops_by (λ said. said ≡ Says.Answer (Answers.Ended (flight_of s.owner o))) s.owner.name served s moment event service (Says.Answer (Answers.Ended (flight_of s.owner o))) said refl refl
 
-ends_so : (s : Standing) (moment : ℤ) (ask : FlightAsk) (service : Service) (served : List OperationalIntent) (ovn : List ℕ) → ask.wish ≡ End → IsSound s.owner s.book s.values → IsUndisturbed s moment ask service served → IsRecorded s ask service ovn
-    → ComesOutAs (IsEnd s moment ask) s.owner.name served s moment (Comes.Ask ask) service
-ends_so s moment ask service served ovn w sound calm held =
+-- the Remove is carried out, and said
+pub removes_so : (s : Standing) (moment : ℤ) (ask : FlightAsk) (o : Opening) (service : Service) (served : List OperationalIntent) (ovn : List ℕ) → o.ask.wish ≡ End → IsOpenJob s.book o
+    → awaited_of o.job s.values ≡ Some (dss_call o.job (Asks.Remove (flight_of s.owner o) ovn)) → Dss.IsOrderly service → (first : Standing) → IsRecorded first ask service ovn → first.owner ≡ s.owner → ask.flight ≡ o.ask.flight
+    → ComesOutAs (λ said. said ≡ Says.Answer (Answers.Ended (flight_of s.owner o))) s.owner.name served s moment
+    (Comes.Dss (record { job = o.job; ask = Asks.Remove (flight_of s.owner o) ovn }) (service_step service s.owner.name (Asks.Remove (flight_of s.owner o) ovn)).0) (service_step service s.owner.name (Asks.Remove (flight_of s.owner o) ovn)).1
+removes_so s moment ask o service served ovn w u waits order first held owner same =
+    let flight = flight_of s.owner o in
+    let put = Asks.Remove flight ovn in
+    let is : flight_number first.owner.number ask.flight ≡ flight_of s.owner o = ap (λ (x : Owner). flight_number x.number ask.flight) owner ∙ ap (flight_number s.owner.number) same in
+    let found = ap (λ f. recorded_of f service) (sym is) ∙ held.found in
+    let alive = ap (λ f. is_one_of f service.retired_flights) (sym is) ∙ held.alive in
+    let step = removes service s.owner.name flight ovn held.it found (held.manager ∙ ap (λ (x : Owner). x.name) owner) held.ovn_is alive in
+    let fit : fits put (after_remove service s.owner.name held.it).0 ≡ true = subst (λ x. fits put x.0 ≡ true) step (step_fits service s.owner.name put order) in
+    subst (λ x. ComesOutAs (λ said. said ≡ Says.Answer (Answers.Ended (flight_of s.owner o))) s.owner.name served s moment (Comes.Dss (record { job = o.job; ask = put }) x.0) x.1) (sym step)
+    (removed s moment ask o _ served flight ovn held.it _ w u waits fit)
+
+pub ends_so : (s : Standing) (moment : ℤ) (ask : FlightAsk) (service : Service) (served : List OperationalIntent) (ovn : List ℕ) → ask.wish ≡ End → IsSound s.owner s.book s.values → IfSome (last_of ask.flight s.book) (IsAfter ask)
+    → new_refusal s.book (clamped moment) ask ≡ None → Dss.IsOrderly service → IsRecorded s ask service ovn → ComesOutAs (IsEnd s moment ask) s.owner.name served s moment (Comes.Ask ask) service
+ends_so s moment ask service served ovn w sound new accepted order held =
     let at = clamped moment in
     let orderly = legal_is_orderly s.book sound.legal in
     let o = opening_for s at ask in
@@ -143,18 +162,15 @@ ends_so s moment ask service served ovn w sound calm held =
     let t = with_entry e (calling o.job (dss_call o.job (Asks.Remove flight ovn)) s.values) in
     let base : base_of ask.flight (s.book ++ e ∷ []) ≡ Some ovn = base_then s at ask sound ∙ held.base in
     let opens : turn_of s moment (Comes.Ask ask) ≡ t =
-    opens_so s moment ask orderly (legal_known s.book sound.legal) (plan_of s moment ask service served calm) calm.new (accepted_of s moment ask service served calm)
+    opens_so s moment ask orderly (legal_known s.book sound.legal) (ap plan_refusal w) new accepted
     ∙ ap (λ (x : Wish). with_entry e (asking (entered s e) o (first_kind (is_end x)))) w
     ∙ ap (λ (x : Option (List ℕ)). with_entry e (making (entered s e) o.job (option_map (λ ovn. Asks.Remove flight ovn) x))) base in
-    let step = removes service s.owner.name flight ovn held.it held.found held.manager held.ovn_is calm.alive in
-    let u = new_unfinished s at ask orderly in
-    let fit : fits call.ask (after_remove service s.owner.name held.it).0 ≡ true = subst (λ x. fits call.ask x.0 ≡ true) step (step_fits service s.owner.name call.ask calm.orderly) in
     goes_on_by (IsEnd s moment ask) s.owner.name served s moment (Comes.Ask ask) service call t opens refl refl
-    (subst (λ x. ComesOutAs (IsEnd s moment ask) s.owner.name served (stands_then s t) moment (Comes.Dss call x.0) x.1) (sym step)
-    (removed (stands_then s t) moment ask o _ served flight ovn held.it _ w u (awaiting_own o.job (dss_call o.job (Asks.Remove flight ovn)) s.values) fit))
+    (removes_so (stands_then s t) moment ask o service served ovn w (new_unfinished s at ask orderly) (awaiting_own o.job (dss_call o.job (Asks.Remove flight ovn)) s.values) order s held refl refl)
 
 pub ends_come_out : (ask : FlightAsk) → ask.wish ≡ End → Settles ask
 ends_come_out ask w s moment service served sound calm =
-    let h = held_there s (clamped moment) ask (ap begins_flight w) (accepted_of s moment ask service served calm) in
-    let held = held_recorded s moment ask service served h.0 sound calm h.1 in
-    subst (λ (x : Wish). ComesOutAs (IsOutcome s moment ask service served x) s.owner.name served s moment (Comes.Ask ask) service) (sym w) (ends_so s moment ask service served h.0.ovn w sound calm held)
+    let accepted = accepted_of s moment ask service served calm in
+    let h = held_there s (clamped moment) ask (ap begins_flight w) accepted in
+    let held = held_recorded s ask service h.0 sound calm.orderly calm.recorded h.1 in
+    subst (λ (x : Wish). ComesOutAs (IsOutcome s moment ask service served x) s.owner.name served s moment (Comes.Ask ask) service) (sym w) (ends_so s moment ask service served h.0.ovn w sound calm.new accepted calm.orderly held)

@@ -269,7 +269,7 @@ agrees s moment ask service served sound calm = go (holding ask.flight s.book) r
         let b : base_of ask.flight s.book ≡ None = ap (option_map (λ (h : Holding). h.ovn)) e in
         subst (λ x. Agrees s.owner.name x (recorded_of id service)) (sym b) (subst (λ x. Agrees s.owner.name None x) (sym n) (record { yours = refl; absent = refl; there = refl; latest = refl }))
     go (Some h) e =
-        let r = held_recorded s moment ask service served h sound calm e in
+        let r = held_recorded s ask service h sound calm.orderly calm.recorded e in
         let m : same_text r.it.reference.manager s.owner.name ≡ true = equal_bytes r.it.reference.manager s.owner.name r.manager in
         let v : has_ovn r.it.reference.ovn h.ovn ≡ true = ap (λ x. has_ovn x h.ovn) r.ovn_is ∙ equal_bytes h.ovn h.ovn refl in
         subst (λ x. Agrees s.owner.name x (recorded_of id service)) (sym r.base)

@@ -73,6 +73,10 @@ intent_of s served r = if is_own s.owner r.reference then held_as s.owner r.refe
 abbrev pub its_flight : Standing → FlightAsk → ℕ
 its_flight s ask = flight_number s.owner.number ask.flight
 
+-- what is held of the request's flight is recorded
+abbrev pub HeldIsRecorded : Standing → FlightAsk → Service → Type 0
+HeldIsRecorded s ask service = IfSome (held ask.flight s.book) (λ p. (r : Recorded) × Has service.references r × (p.reference ≡ r.reference))
+
 -- nothing stands in the way of the request
 pub record IsUndisturbed (s : Standing) (moment : ℤ) (ask : FlightAsk) (service : Service) (served : List OperationalIntent) : Type 0 where
   -- the request is new, and isn't refused
@@ -91,7 +95,7 @@ pub record IsUndisturbed (s : Standing) (moment : ℤ) (ask : FlightAsk) (servic
   pub few_landings : length service.landings < 9999999999999999
   -- each recorded reference of the supplier is that of what it holds, and what it holds of the flight is recorded
   pub held_own : (r : Recorded) → Has service.references r → is_own s.owner r.reference ≡ true → (p : OperationalIntent) × (held_as s.owner r.reference.flight s.book ≡ Some p) × (p.reference ≡ r.reference)
-  pub recorded : IfSome (held ask.flight s.book) (λ p. (r : Recorded) × Has service.references r × (p.reference ≡ r.reference))
+  pub recorded : HeldIsRecorded s ask service
   -- each other reference is served as it is recorded
   pub served_others : (r : Recorded) → Has service.references r → is_own s.owner r.reference ≡ false → (p : OperationalIntent) × (served_of r.reference.flight r.reference.manager served ≡ Some p) × IsPairOf r p
   -- what was heard of another's recorded flight is no newer, and where it is as new, it is what is served
@@ -160,6 +164,24 @@ RequestsAreAnswered = (ask : FlightAsk) → IsAnswered ask
 
 abbrev pub RequestsComeOut : Type 0
 RequestsComeOut = (ask : FlightAsk) → ComesOut ask
+
+-- the end of a flight is asked for: for the first time, or again, whether it has come or not
+pub record IsEnding (s : Standing) (moment : ℤ) (ask : FlightAsk) (service : Service) : Type 0 where
+  pub end : ask.wish ≡ End
+  pub accepted : ask_refusal s.book (clamped moment) ask ≡ None
+  pub orderly : IsOrderly service
+  pub recorded : HeldIsRecorded s ask service
+
+-- it needs no more than this to come
+abbrev pub EndsAreAnswered : Type 0
+EndsAreAnswered =
+    (s : Standing) (moment : ℤ) (ask : FlightAsk) (service : Service) (served : List OperationalIntent) → IsSound s.owner s.book s.values → IsEnding s moment ask service
+    → (xs : List Exchanged) × IsExchange s moment (Comes.Ask ask) xs × AreByService s.owner.name served service xs
+
+abbrev pub EndsComeOut : Type 0
+EndsComeOut =
+    (s : Standing) (moment : ℤ) (ask : FlightAsk) (service : Service) (served : List OperationalIntent) (xs : List Exchanged) → IsSound s.owner s.book s.values → IsEnding s moment ask service
+    → IsExchange s moment (Comes.Ask ask) xs → AreByService s.owner.name served service xs → (last_turn s moment (Comes.Ask ask) xs).said ≡ Says.Answer (Answers.Ended (its_flight s ask))
 
 -- such replies fit their calls, so that what holds of replies that fit holds of these
 abbrev pub TheirRepliesFit : Type 0
