@@ -42,7 +42,7 @@ no_repeat : (ask : FlightAsk) (last : Option Opening) → IfSome last (IsAfter a
 no_repeat ask None h = refl
 no_repeat ask (Some last) h = unequal_number ask.number last.ask.number (λ q. omega (arith, h, q))
 
-only_none : (x : Option AskRefusal) → first_some (x ∷ []) ≡ None → x ≡ None
+pub only_none : (x : Option AskRefusal) → first_some (x ∷ []) ≡ None → x ≡ None
 only_none None h = refl
 only_none (Some r) h = cc
 

@@ -98,7 +98,7 @@ removes service client flight ovn r f m v alive =
     rw (f, a, alive, b) refl
 
 -- what is to end is held
-held_there : (s : Standing) (at : ℤ) (ask : FlightAsk) → begins_flight ask.wish ≡ false → new_refusal s.book at ask ≡ None → (h : Holding) × (holding ask.flight s.book ≡ Some h)
+pub held_there : (s : Standing) (at : ℤ) (ask : FlightAsk) → begins_flight ask.wish ≡ false → new_refusal s.book at ask ≡ None → (h : Holding) × (holding ask.flight s.book ≡ Some h)
 unfolding new_refusal held
 held_there s at ask w n =
     let n1 = parts_none (busy s.book ask) _ n in

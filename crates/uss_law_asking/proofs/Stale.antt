@@ -68,7 +68,7 @@ unfolding decision_of
 decision_kept job book more d h = ap (find (λ (c : Closing). c.job == job)) (decisions_append book more) ∙ find_kept (λ (c : Closing). c.job == job) (decisions book) (decisions more) d h
 
 -- the end of a job is an old one, or that of the new entry
-new_ending : (job : ℕ) (book : List Entry) (e : Entry) (c : Closing) → ending_of job (book ++ e ∷ []) ≡ Some c → (ending_of job book ≡ Some c) ⊎ (e ≡ Enters.Done job c.end)
+pub new_ending : (job : ℕ) (book : List Entry) (e : Entry) (c : Closing) → ending_of job (book ++ e ∷ []) ≡ Some c → (ending_of job book ≡ Some c) ⊎ (e ≡ Enters.Done job c.end)
 unfolding ending_of
 new_ending job book e c h = at (find p (endings book)) refl (sym (ap (find p) (endings_append book (e ∷ [])) ∙ find-append p (endings book) (endings (e ∷ []))) ∙ h)
   where
