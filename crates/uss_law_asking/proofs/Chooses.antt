@@ -124,20 +124,20 @@ intent_is s moment ask service served r calm h = go (is_own s.owner r.reference)
     go true e = let k = calm.held_own r h e in record { pair = k.0; is = rw e k.1; ovn = ap (λ (x : Reference). x.ovn) k.2 }
     go false e = let k = calm.served_others r h e in record { pair = k.0; is = rw e k.1; ovn = k.2.ovn }
 
-key_has : (s : Standing) (moment : ℤ) (ask : FlightAsk) (service : Service) (served : List OperationalIntent) (r : Recorded) → IsUndisturbed s moment ask service served → Has service.references r → Has (around s moment ask service) r
-    → in_key (key_of (intents_around s moment ask service served)) r.reference ≡ true
+key_has : (s : Standing) (moment : ℤ) (ask : FlightAsk) (service : Service) (served : List OperationalIntent) (r : Recorded) → IsUndisturbed s moment ask service served → Has service.references r → Has (around s ask service) r
+    → in_key (key_of (intents_around s ask service served)) r.reference ≡ true
 unfolding key_of
 key_has s moment ask service served r calm h a =
     let i = intent_is s moment ask service served r calm h in
     let l = calm.orderly.landed r h in
     let o : r.reference.ovn ≡ Some l.0.ovn = l.2.ovn in
-    let p = has_picks (intent_of s served) (around s moment ask service) r i.pair a i.is in
-    let k = has_picks ovn_of (intents_around s moment ask service served) i.pair l.0.ovn p (i.ovn ∙ o) in
-    any_true (λ x. has_ovn r.reference.ovn x) (filter_map ovn_of (intents_around s moment ask service served)) l.0.ovn k (ap (λ x. has_ovn x l.0.ovn) o ∙ equal_bytes l.0.ovn l.0.ovn refl)
+    let p = has_picks (intent_of s served) (around s ask service) r i.pair a i.is in
+    let k = has_picks ovn_of (intents_around s ask service served) i.pair l.0.ovn p (i.ovn ∙ o) in
+    any_true (λ x. has_ovn r.reference.ovn x) (filter_map ovn_of (intents_around s ask service served)) l.0.ovn k (ap (λ x. has_ovn x l.0.ovn) o ∙ equal_bytes l.0.ovn l.0.ovn refl)
 
 none_lacks : (s : Standing) (moment : ℤ) (ask : FlightAsk) (service : Service) (served : List OperationalIntent) (extents : List Volume4D) → IsUndisturbed s moment ask service served → AreaCovers ask service
     → ((v : Volume4D) → Has extents v → Has (all_extents (proposals_of ask.wish)) v)
-    → lacking (key_of (intents_around s moment ask service served)) (relevant (flight_of s.owner (opening_for s (clamped moment) ask)) extents service) ≡ []
+    → lacking (key_of (intents_around s ask service served)) (relevant (flight_of s.owner (opening_for s (clamped moment) ask)) extents service) ≡ []
 none_lacks s moment ask service served extents calm covers among =
     none_filtered (λ (r : Recorded). not (in_key key r.reference)) (relevant flight extents service) (λ r h. ap not (here r h))
   where
@@ -145,7 +145,7 @@ none_lacks s moment ask service served extents calm covers among =
     flight = flight_of s.owner (opening_for s (clamped moment) ask)
 
     key : List (List ℕ)
-    key = key_of (intents_around s moment ask service served)
+    key = key_of (intents_around s ask service served)
 
     here : (r : Recorded) → Has (relevant flight extents service) r → in_key key r.reference ≡ true
     here r h =
@@ -166,9 +166,9 @@ first_with s v o alternative to priority rounds proposals proposal f =
 pub chooses_out : (s : Standing) (moment : ℤ) (ask : FlightAsk) (service : Service) (served : List OperationalIntent) (u v : Values) (event : Event) (to : State) (priority rounds : ℕ) (proposals : List Proposal)
     → ask.wish ≡ Put to priority rounds proposals → IsSound s.owner s.book s.values → IsUndisturbed s moment ask service served → AreaCovers ask service
     → turn_of (with_values (looks_from s moment ask) u) moment event ≡ choosing (with_values (looks_from s moment ask) v) (opening_for s (clamped moment) ask)
-    → pairs_in (with_values (looks_from s moment ask) v) (round_of (opening_for s (clamped moment) ask).job v) ≡ intents_around s moment ask service served
+    → pairs_in (with_values (looks_from s moment ask) v) (round_of (opening_for s (clamped moment) ask).job v) ≡ intents_around s ask service served
     → length (round_of (opening_for s (clamped moment) ask).job v).found ≤ 1024
-    → ComesOutAs (IsOfChoice (is_new s ask) (its_flight s ask) (intents_around s moment ask service served) (choice_of s (opening_for s (clamped moment) ask) (intents_around s moment ask service served))) s.owner.name served (with_values (looks_from s moment ask) u) moment event
+    → ComesOutAs (IsOfChoice (is_new s ask) (its_flight s ask) (intents_around s ask service served) (choice_of s (opening_for s (clamped moment) ask) (intents_around s ask service served))) s.owner.name served (with_values (looks_from s moment ask) u) moment event
     (ticketed s moment ask service)
 chooses_out s moment ask service served u v event to priority rounds proposals w sound calm covers turn pairs few =
     go (choice_of s o intents) refl (turn ∙ ap (λ (x : List OperationalIntent). choosing_by t o x (choice_of t o x)) pairs ∙ ap (choosing_by t o intents) chosen)
@@ -183,7 +183,7 @@ chooses_out s moment ask service served u v event to priority rounds proposals w
     now = with_values (looks_from s moment ask) u
 
     intents : List OperationalIntent
-    intents = intents_around s moment ask service served
+    intents = intents_around s ask service served
 
     -- the choice is by what is held, which stays
     by_wish : (x : Wish) → choice_by t o intents x ≡ choice_by s o intents x

@@ -61,15 +61,15 @@ others_shown flight client (r ∷ rs) =
     go false e = e
 
 pub found_around : (s : Standing) (moment : ℤ) (ask : FlightAsk) (service : Service)
-    → others (flight_of s.owner (opening_for s (clamped moment) ask)) (found_by (found_there s ask service)) ≡ shown_all s.owner.name (around s moment ask service)
+    → others (flight_of s.owner (opening_for s (clamped moment) ask)) (found_by (found_there s ask service)) ≡ shown_all s.owner.name (around s ask service)
 found_around s moment ask service = others_shown (flight_of s.owner (opening_for s (clamped moment) ask)) s.owner.name (found_in (area_of ask.wish) service.references)
 
 pub count_around : (s : Standing) (moment : ℤ) (ask : FlightAsk) (service : Service)
-    → length (others (flight_of s.owner (opening_for s (clamped moment) ask)) (found_by (found_there s ask service))) ≡ length (around s moment ask service)
-count_around s moment ask service = ap length (found_around s moment ask service) ∙ length-map (λ (r : Recorded). shown_to s.owner.name r.reference) (around s moment ask service)
+    → length (others (flight_of s.owner (opening_for s (clamped moment) ask)) (found_by (found_there s ask service))) ≡ length (around s ask service)
+count_around s moment ask service = ap length (found_around s moment ask service) ∙ length-map (λ (r : Recorded). shown_to s.owner.name r.reference) (around s ask service)
 
 -- what a plan does with it
-pub finds_so : (s : Standing) (moment : ℤ) (ask : FlightAsk) (service : Service) (served : List OperationalIntent) (b : Bool) → keeps_key ask.wish ≡ true → nat_lt 1024 (length (around s moment ask service)) ≡ b → IsSound s.owner s.book s.values
+pub finds_so : (s : Standing) (moment : ℤ) (ask : FlightAsk) (service : Service) (served : List OperationalIntent) (b : Bool) → keeps_key ask.wish ≡ true → nat_lt 1024 (length (around s ask service)) ≡ b → IsSound s.owner s.book s.values
     → IsUndisturbed s moment ask service served
     → turn_of (looks_from s moment ask) moment (Comes.Dss (record { job = (opening_for s (clamped moment) ask).job; ask = its_query ask }) (found_there s ask service))
     ≡ carry_out (with_values (looks_from s moment ask) (round_by_dss (looks_from s moment ask) (opening_for s (clamped moment) ask) (found_there s ask service))) (opening_for s (clamped moment) ask) (found_there s ask service)
@@ -90,13 +90,13 @@ finds_so s moment ask service served b k many sound calm =
     ∙ ap (λ (x : Bool). carry_out t o reply (cond x Duties.Crowded (next_or_choice (is_left s.owner t.values.heard (round_of o.job t.values))))) many
 
 abbrev IsCrowded : Standing → ℤ → FlightAsk → Service → Said → Type 0
-IsCrowded s moment ask service said = said ≡ Says.Answer (Answers.Crowded (length (around s moment ask service)))
+IsCrowded s moment ask service said = said ≡ Says.Answer (Answers.Crowded (length (around s ask service)))
 
 pub key_is_no_end : (wish : Wish) → keeps_key wish ≡ true → is_end wish ≡ false
 key_is_no_end (Put to priority rounds proposals) k = refl
 key_is_no_end End k = cc
 
-crowds : (s : Standing) (moment : ℤ) (ask : FlightAsk) (service : Service) (served : List OperationalIntent) → keeps_key ask.wish ≡ true → nat_lt 1024 (length (around s moment ask service)) ≡ true → IsSound s.owner s.book s.values
+crowds : (s : Standing) (moment : ℤ) (ask : FlightAsk) (service : Service) (served : List OperationalIntent) → keeps_key ask.wish ≡ true → nat_lt 1024 (length (around s ask service)) ≡ true → IsSound s.owner s.book s.values
     → IsUndisturbed s moment ask service served → ComesOutAs (IsCrowded s moment ask service) s.owner.name served s moment (Comes.Ask ask) service
 crowds s moment ask service served k many sound calm =
     let o = opening_for s (clamped moment) ask in
@@ -105,19 +105,19 @@ crowds s moment ask service served k many sound calm =
     let turn = finds_so s moment ask service served true k many sound calm in
     let said = ap (λ (x : Turn). x.said) turn ∙ ap (λ (n : ℕ). Says.Answer (Answers.Crowded n)) (count_around s moment ask service) in
     looks_so (IsCrowded s moment ask service) s moment ask service served (key_is_no_end ask.wish k) sound calm
-    (stops_by (IsCrowded s moment ask service) s.owner.name served s2 moment (Comes.Dss (record { job = o.job; ask = its_query ask }) reply) (ticketed s moment ask service) (Says.Answer (Answers.Crowded (length (around s moment ask service)))) said refl refl)
+    (stops_by (IsCrowded s moment ask service) s.owner.name served s2 moment (Comes.Dss (record { job = o.job; ask = its_query ask }) reply) (ticketed s moment ask service) (Says.Answer (Answers.Crowded (length (around s ask service)))) said refl refl)
 
-pub crowded_plans_come_out : (ask : FlightAsk) (s : Standing) (moment : ℤ) (service : Service) (served : List OperationalIntent) → keeps_key ask.wish ≡ true → 1024 < length (around s moment ask service)
+pub crowded_plans_come_out : (ask : FlightAsk) (s : Standing) (moment : ℤ) (service : Service) (served : List OperationalIntent) → keeps_key ask.wish ≡ true → 1024 < length (around s ask service)
     → IsSound s.owner s.book s.values → IsUndisturbed s moment ask service served → ComesOutAs (IsOutcome s moment ask service served ask.wish) s.owner.name served s moment (Comes.Ask ask) service
 crowded_plans_come_out ask s moment service served k many sound calm = go ask.wish refl k
   where
-    test : nat_lt 1024 (length (around s moment ask service)) ≡ true
-    test = less_test 1024 (length (around s moment ask service)) many
+    test : nat_lt 1024 (length (around s ask service)) ≡ true
+    test = less_test 1024 (length (around s ask service)) many
 
     go : (x : Wish) → ask.wish ≡ x → keeps_key x ≡ true → ComesOutAs (IsOutcome s moment ask service served ask.wish) s.owner.name served s moment (Comes.Ask ask) service
     go End w h = cc
     go (Put to priority rounds proposals) w h =
         subst (λ (x : Wish). ComesOutAs (IsOutcome s moment ask service served x) s.owner.name served s moment (Comes.Ask ask) service) (sym w)
-        (subst (λ (b : Bool). ComesOutAs (IsPutOutcome (is_new s ask) (its_flight s ask) b (length (around s moment ask service)) (intents_around s moment ask service served) (choice_of s (opening_for s (clamped moment) ask) (intents_around s moment ask service served))) s.owner.name served s moment (Comes.Ask ask) service) (sym h)
-        (subst (λ (b : Bool). ComesOutAs (IsKeyedOutcome (is_new s ask) (its_flight s ask) b (length (around s moment ask service)) (intents_around s moment ask service served) (choice_of s (opening_for s (clamped moment) ask) (intents_around s moment ask service served))) s.owner.name served s moment (Comes.Ask ask) service) (sym test)
+        (subst (λ (b : Bool). ComesOutAs (IsPutOutcome (is_new s ask) (its_flight s ask) b (length (around s ask service)) (intents_around s ask service served) (choice_of s (opening_for s (clamped moment) ask) (intents_around s ask service served))) s.owner.name served s moment (Comes.Ask ask) service) (sym h)
+        (subst (λ (b : Bool). ComesOutAs (IsKeyedOutcome (is_new s ask) (its_flight s ask) b (length (around s ask service)) (intents_around s ask service served) (choice_of s (opening_for s (clamped moment) ask) (intents_around s ask service served))) s.owner.name served s moment (Comes.Ask ask) service) (sym test)
         (crowds s moment ask service served k test sound calm)))

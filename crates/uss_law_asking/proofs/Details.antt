@@ -56,10 +56,10 @@ served_is flight manager served p e =
     (same_number p.reference.flight flight b.0, b.1)
 
 -- what is around is recorded, and each flight once
-pub recorded_around : (s : Standing) (moment : ℤ) (ask : FlightAsk) (service : Service) (r : Recorded) → Has (around s moment ask service) r → Has service.references r
+pub recorded_around : (s : Standing) (moment : ℤ) (ask : FlightAsk) (service : Service) (r : Recorded) → Has (around s ask service) r → Has service.references r
 recorded_around s moment ask service r h = has_filter _ service.references r (has_filter _ (found_in (area_of ask.wish) service.references) r h)
 
-one_around : (s : Standing) (moment : ℤ) (ask : FlightAsk) (service : Service) (served : List OperationalIntent) (x y : Recorded) → IsUndisturbed s moment ask service served → Has (around s moment ask service) x → Has (around s moment ask service) y
+one_around : (s : Standing) (moment : ℤ) (ask : FlightAsk) (service : Service) (served : List OperationalIntent) (x y : Recorded) → IsUndisturbed s moment ask service served → Has (around s ask service) x → Has (around s ask service) y
     → x.reference.flight ≡ y.reference.flight → x ≡ y
 one_around s moment ask service served x y calm h k e =
     one_has Dss.flight_recorded service.references x y calm.orderly.references_ascend (recorded_around s moment ask service x h) (recorded_around s moment ask service y k) e
@@ -70,24 +70,24 @@ abbrev its_job : Standing → ℤ → FlightAsk → ℕ
 its_job s moment ask = (opening_for s (clamped moment) ask).job
 
 pub record IsHearing (s : Standing) (moment : ℤ) (ask : FlightAsk) (service : Service) (served : List OperationalIntent) (v : Values) : Type 0 where
-  pub found : (round_of (opening_for s (clamped moment) ask).job v).found ≡ shown_all s.owner.name (around s moment ask service)
+  pub found : (round_of (opening_for s (clamped moment) ask).job v).found ≡ shown_all s.owner.name (around s ask service)
   pub gone : (round_of (opening_for s (clamped moment) ask).job v).gone ≡ []
   -- the pairs that were kept before, of which some are left, and those that were heard since
   pub front : List OperationalIntent
   pub recent : List OperationalIntent
   pub kept : kept_pairs v.heard ≡ front ++ recent
-  pub asked : (r : Recorded) → Has (around s moment ask service) r → is_one_of r.reference.flight (round_of (opening_for s (clamped moment) ask).job v).asked ≡ true → (p : OperationalIntent) × Has recent p × (p.reference.flight ≡ r.reference.flight)
+  pub asked : (r : Recorded) → Has (around s ask service) r → is_one_of r.reference.flight (round_of (opening_for s (clamped moment) ask).job v).asked ≡ true → (p : OperationalIntent) × Has recent p × (p.reference.flight ≡ r.reference.flight)
   pub recents : (p : OperationalIntent) → Has recent p
-      → (r : Recorded) × Has (around s moment ask service) r × (served_of r.reference.flight r.reference.manager served ≡ Some p) × (is_one_of r.reference.flight (round_of (opening_for s (clamped moment) ask).job v).asked ≡ true)
+      → (r : Recorded) × Has (around s ask service) r × (served_of r.reference.flight r.reference.manager served ≡ Some p) × (is_one_of r.reference.flight (round_of (opening_for s (clamped moment) ask).job v).asked ≡ true)
   pub apart : (q p : OperationalIntent) → Has front q → Has recent p → q.reference.flight ≢ p.reference.flight
-  pub old : (r : Recorded) → Has (around s moment ask service) r → is_own s.owner r.reference ≡ false → (q : OperationalIntent) → Has front q → q.reference.flight ≡ r.reference.flight
+  pub old : (r : Recorded) → Has (around s ask service) r → is_own s.owner r.reference ≡ false → (q : OperationalIntent) → Has front q → q.reference.flight ≡ r.reference.flight
       → (q.reference.version ≤ r.reference.version) × (q.reference.version ≡ r.reference.version → served_of r.reference.flight r.reference.manager served ≡ Some q)
   pub few : length recent + left (round_of (opening_for s (clamped moment) ask).job v) ≤ 1024
 
 -- what is kept of a flight around that was heard of is what is served
 
 recent_is : (s : Standing) (moment : ℤ) (ask : FlightAsk) (service : Service) (served : List OperationalIntent) (v : Values) (r : Recorded) (q : OperationalIntent) → IsUndisturbed s moment ask service served → (l : IsHearing s moment ask service served v)
-    → Has (around s moment ask service) r → Has l.recent q → q.reference.flight ≡ r.reference.flight → served_of r.reference.flight r.reference.manager served ≡ Some q
+    → Has (around s ask service) r → Has l.recent q → q.reference.flight ≡ r.reference.flight → served_of r.reference.flight r.reference.manager served ≡ Some q
 recent_is s moment ask service served v r q calm l h k e =
     let x = l.recents q k in
     let f = served_is x.0.reference.flight x.0.reference.manager served q x.2 in
@@ -95,12 +95,12 @@ recent_is s moment ask service served v r q calm l h k e =
     subst (λ (y : Recorded). served_of y.reference.flight y.reference.manager served ≡ Some q) same x.2
 
 kept_so : (s : Standing) (moment : ℤ) (ask : FlightAsk) (service : Service) (served : List OperationalIntent) (v : Values) (r : Recorded) → IsUndisturbed s moment ask service served → IsHearing s moment ask service served v
-    → Has (around s moment ask service) r → is_own s.owner r.reference ≡ false → next_unheard s.owner v.heard (round_of (opening_for s (clamped moment) ask).job v) ≡ None
+    → Has (around s ask service) r → is_own s.owner r.reference ≡ false → next_unheard s.owner v.heard (round_of (opening_for s (clamped moment) ask).job v) ≡ None
     → kept_pair r.reference.flight v.heard ≡ served_of r.reference.flight r.reference.manager served
 unfolding is_unheard
 kept_so s moment ask service served v r calm l h own none =
     let x = shown_to s.owner.name r.reference in
-    let has : Has round.found x = subst (λ (y : List Reference). Has y x) (sym l.found) (mapped (λ (r : Recorded). shown_to s.owner.name r.reference) (around s moment ask service) r h) in
+    let has : Has round.found x = subst (λ (y : List Reference). Has y x) (sym l.found) (mapped (λ (r : Recorded). shown_to s.owner.name r.reference) (around s ask service) r h) in
     let unheard = find_none (is_unheard s.owner v.heard round) round.found x none has in
     let other : is_own s.owner x ≡ false = ap (λ m. same_text m s.owner.name) (shown_manager s.owner.name r.reference) ∙ own in
     let rest = second_false (not (is_own s.owner x)) _ unheard (ap not other) in
@@ -158,21 +158,21 @@ pair_by s book round v flight manager = cond (same_text manager s.owner.name) (h
 
 pub pairs_so : (s : Standing) (moment : ℤ) (ask : FlightAsk) (service : Service) (served : List OperationalIntent) (v : Values) → IsSound s.owner s.book s.values → IsUndisturbed s moment ask service served → IsHearing s moment ask service served v
     → next_unheard s.owner v.heard (round_of (opening_for s (clamped moment) ask).job v) ≡ None
-    → pairs_in (with_values (looks_from s moment ask) v) (round_of (opening_for s (clamped moment) ask).job v) ≡ intents_around s moment ask service served
+    → pairs_in (with_values (looks_from s moment ask) v) (round_of (opening_for s (clamped moment) ask).job v) ≡ intents_around s ask service served
 unfolding pairs_in pair_of
 pairs_so s moment ask service served v sound calm l none =
     ap (filter_map (pair_of (with_values (looks_from s moment ask) v) (round_of (opening_for s (clamped moment) ask).job v))) l.found
-    ∙ filter_map_shown (pair_of (with_values (looks_from s moment ask) v) (round_of (opening_for s (clamped moment) ask).job v)) (intent_of s served) s.owner.name (around s moment ask service) each
+    ∙ filter_map_shown (pair_of (with_values (looks_from s moment ask) v) (round_of (opening_for s (clamped moment) ask).job v)) (intent_of s served) s.owner.name (around s ask service) each
   where
     round : Round
     round = round_of (opening_for s (clamped moment) ask).job v
 
-    here : (r : Recorded) → Has (around s moment ask service) r → (b : Bool) → is_own s.owner r.reference ≡ b → pair_by s (looking_book s moment ask) round v r.reference.flight r.reference.manager ≡ intent_of s served r
+    here : (r : Recorded) → Has (around s ask service) r → (b : Bool) → is_own s.owner r.reference ≡ b → pair_by s (looking_book s moment ask) round v r.reference.flight r.reference.manager ≡ intent_of s served r
     here r h true e =
         let k = calm.held_own r (recorded_around s moment ask service r h) e in
         rw (e, held_as_stays s moment ask r.reference.flight k.0 sound k.1, k.1) refl
     here r h false e = rw (e, l.gone) (kept_so s moment ask service served v r calm l h e none)
 
-    each : (r : Recorded) → Has (around s moment ask service) r → pair_of (with_values (looks_from s moment ask) v) (round_of (opening_for s (clamped moment) ask).job v) (shown_to s.owner.name r.reference) ≡ intent_of s served r
+    each : (r : Recorded) → Has (around s ask service) r → pair_of (with_values (looks_from s moment ask) v) (round_of (opening_for s (clamped moment) ask).job v) (shown_to s.owner.name r.reference) ≡ intent_of s served r
     each r h =
         ap (λ f. pair_by s (looking_book s moment ask) round v f (shown_to s.owner.name r.reference).manager) (shown_flight s.owner.name r.reference) ∙ ap (λ m. pair_by s (looking_book s moment ask) round v r.reference.flight m) (shown_manager s.owner.name r.reference) ∙ here r h (is_own s.owner r.reference) refl

@@ -69,5 +69,5 @@ requests_without_key_come_out ask k = go ask.wish refl k
     go End w k = ends_come_out ask w
     go (Put to priority rounds proposals) w k = λ s moment service served sound calm.
         subst (λ (x : Wish). ComesOutAs (IsOutcome s moment ask service served x) s.owner.name served s moment (Comes.Ask ask) service) (sym w)
-        (subst (λ (b : Bool). ComesOutAs (IsPutOutcome (is_new s ask) (its_flight s ask) b (length (around s moment ask service)) (intents_around s moment ask service served) (choice_of s (opening_for s (clamped moment) ask) (intents_around s moment ask service served))) s.owner.name served s moment (Comes.Ask ask) service) (sym k)
+        (subst (λ (b : Bool). ComesOutAs (IsPutOutcome (is_new s ask) (its_flight s ask) b (length (around s ask service)) (intents_around s ask service served) (choice_of s (opening_for s (clamped moment) ask) (intents_around s ask service served))) s.owner.name served s moment (Comes.Ask ask) service) (sym k)
         (unkeyed s moment ask service served to priority rounds proposals w k sound calm))

@@ -71,11 +71,11 @@ record IsPlan (s : Standing) (moment : ℤ) (ask : FlightAsk) (service : Service
   sound : IsSound s.owner s.book s.values
   calm : IsUndisturbed s moment ask service served
   covers : AreaCovers ask service
-  few : length (around s moment ask service) ≤ 1024
+  few : length (around s ask service) ≤ 1024
 
 abbrev Out : Standing → ℤ → FlightAsk → Service → List OperationalIntent → Values → Event → Type 0
 Out s moment ask service served u event =
-    ComesOutAs (IsOfChoice (is_new s ask) (its_flight s ask) (intents_around s moment ask service served) (choice_of s (opening_for s (clamped moment) ask) (intents_around s moment ask service served))) s.owner.name served (with_values (looks_from s moment ask) u) moment event
+    ComesOutAs (IsOfChoice (is_new s ask) (its_flight s ask) (intents_around s ask service served) (choice_of s (opening_for s (clamped moment) ask) (intents_around s ask service served))) s.owner.name served (with_values (looks_from s moment ask) u) moment event
     (ticketed s moment ask service)
 
 abbrev round_in : Standing → ℤ → FlightAsk → Values → Round
@@ -113,7 +113,7 @@ news_then s moment ask v x p =
 -- the reference that is asked for, and what is served of it
 record IsNext (s : Standing) (moment : ℤ) (ask : FlightAsk) (service : Service) (served : List OperationalIntent) (v : Values) (x : Reference) : Type 0 where
   it : Recorded
-  has : Has (around s moment ask service) it
+  has : Has (around s ask service) it
   flight_is : x.flight ≡ it.reference.flight
   manager_is : x.manager ≡ it.reference.manager
   other : is_own s.owner it.reference ≡ false
@@ -129,7 +129,7 @@ unfolding is_unheard
 next_is s moment ask service served v x calm l e =
     let round = round_in s moment ask v in
     let h = find_has (is_unheard s.owner v.heard round) round.found x e in
-    let m = has_map (λ (r : Recorded). shown_to s.owner.name r.reference) (around s moment ask service) x (subst (λ (y : List Reference). Has y x) l.found h.0) in
+    let m = has_map (λ (r : Recorded). shown_to s.owner.name r.reference) (around s ask service) x (subst (λ (y : List Reference). Has y x) l.found h.0) in
     let flight : x.flight ≡ m.0.reference.flight = sym (ap (λ (y : Reference). y.flight) m.2) ∙ shown_flight s.owner.name m.0.reference in
     let manager : x.manager ≡ m.0.reference.manager = sym (ap (λ (y : Reference). y.manager) m.2) ∙ shown_manager s.owner.name m.0.reference in
     let b = both (not (is_own s.owner x)) _ h.1 in
@@ -176,7 +176,7 @@ hears_on s moment ask service served v x l n =
     kept : IsKept (kept_pairs (v.heard ++ Heard n.pair ∷ [])) l.front (l.recent ++ n.pair ∷ []) n.pair.reference.flight
     kept = let c = l.few in hear_one v.heard l.front l.recent n.pair l.kept (omega (arith, c)) other older
 
-    asks : (r : Recorded) → Has (around s moment ask service) r → is_one_of r.reference.flight (x.flight ∷ (round_in s moment ask v).asked) ≡ true → (q : OperationalIntent) × Has (l.recent ++ n.pair ∷ []) q × (q.reference.flight ≡ r.reference.flight)
+    asks : (r : Recorded) → Has (around s ask service) r → is_one_of r.reference.flight (x.flight ∷ (round_in s moment ask v).asked) ≡ true → (q : OperationalIntent) × Has (l.recent ++ n.pair ∷ []) q × (q.reference.flight ≡ r.reference.flight)
     asks r h a = go (x.flight == r.reference.flight) refl a
       where
         go : (b : Bool) → (x.flight == r.reference.flight) ≡ b → (b || is_one_of r.reference.flight (round_in s moment ask v).asked) ≡ true → (q : OperationalIntent) × Has (l.recent ++ n.pair ∷ []) q × (q.reference.flight ≡ r.reference.flight)
@@ -184,14 +184,14 @@ hears_on s moment ask service served v x l n =
         go false e t = let k = l.asked r h t in (k.0, has_left l.recent (n.pair ∷ []) k.0 k.1, k.2)
 
     again : (q : OperationalIntent) → Has (l.recent ++ n.pair ∷ []) q
-        → (r : Recorded) × Has (around s moment ask service) r × (served_of r.reference.flight r.reference.manager served ≡ Some q) × (is_one_of r.reference.flight (x.flight ∷ (round_in s moment ask v).asked) ≡ true)
+        → (r : Recorded) × Has (around s ask service) r × (served_of r.reference.flight r.reference.manager served ≡ Some q) × (is_one_of r.reference.flight (x.flight ∷ (round_in s moment ask v).asked) ≡ true)
     again q h = elim (has_push l.recent n.pair q h) [
       | inl i ↦ old_one (l.recents q i)
       | inr e ↦ (n.it, n.has, n.served_so ∙ ap Some e, left_true (x.flight == n.it.reference.flight) _ (equal_number x.flight n.it.reference.flight n.flight_is))
     ]
       where
-        old_one : (r : Recorded) × Has (around s moment ask service) r × (served_of r.reference.flight r.reference.manager served ≡ Some q) × (is_one_of r.reference.flight (round_in s moment ask v).asked ≡ true)
-            → (r : Recorded) × Has (around s moment ask service) r × (served_of r.reference.flight r.reference.manager served ≡ Some q) × (is_one_of r.reference.flight (x.flight ∷ (round_in s moment ask v).asked) ≡ true)
+        old_one : (r : Recorded) × Has (around s ask service) r × (served_of r.reference.flight r.reference.manager served ≡ Some q) × (is_one_of r.reference.flight (round_in s moment ask v).asked ≡ true)
+            → (r : Recorded) × Has (around s ask service) r × (served_of r.reference.flight r.reference.manager served ≡ Some q) × (is_one_of r.reference.flight (x.flight ∷ (round_in s moment ask v).asked) ≡ true)
         old_one (r, a, b, c) = (r, a, b, right_true (x.flight == r.reference.flight) _ c)
 
 -- one reference after another
@@ -203,7 +203,7 @@ one : (s : Standing) (moment : ℤ) (ask : FlightAsk) (service : Service) (serve
     → (x : Option Reference) → next_unheard s.owner v.heard (round_in s moment ask v) ≡ x
     → turn_of (with_values (looks_from s moment ask) u) moment event ≡ next_step (with_values (looks_from s moment ask) v) (opening_for s (clamped moment) ask) x → Out s moment ask service served u event
 one s moment ask service served u v event c l rec None e q =
-    let n = ap length l.found ∙ length-map (λ (r : Recorded). shown_to s.owner.name r.reference) (around s moment ask service) in
+    let n = ap length l.found ∙ length-map (λ (r : Recorded). shown_to s.owner.name r.reference) (around s ask service) in
     let f = c.few in
     chooses_out s moment ask service served u v event c.to c.priority c.rounds c.proposals c.wish c.sound c.calm c.covers q (pairs_so s moment ask service served v c.sound c.calm l e) (omega (arith, n, f))
 one s moment ask service served u v event c l rec (Some x) e q =
@@ -212,7 +212,7 @@ one s moment ask service served u v event c l rec (Some x) e q =
     let call = Calls.Details o.job x.flight x.manager x.base in
     let v1 = asked_for s moment ask v x in
     let v2 = hearing (Heard n.pair ∷ []) v1 in
-    let P = IsOfChoice (is_new s ask) (its_flight s ask) (intents_around s moment ask service served) (choice_of s o (intents_around s moment ask service served)) in
+    let P = IsOfChoice (is_new s ask) (its_flight s ask) (intents_around s ask service served) (choice_of s o (intents_around s ask service served)) in
     let its = served_is n.it.reference.flight n.it.reference.manager served n.pair n.served_so in
     let serves : served_of x.flight x.manager served ≡ Some n.pair = ap (λ f. served_of f x.manager served) n.flight_is ∙ ap (λ m. served_of n.it.reference.flight m served) n.manager_is ∙ n.served_so in
     let fit : peer_fits call (Peers.Served n.pair) ≡ true =
@@ -240,7 +240,7 @@ hears_all (suc n) s moment ask service served u v event c few l turn =
 first_hearing : (s : Standing) (moment : ℤ) (ask : FlightAsk) (service : Service) (served : List OperationalIntent) → IsPlan s moment ask service served
     → IsHearing s moment ask service served (round_by_dss (looks_from s moment ask) (opening_for s (clamped moment) ask) (found_there s ask service))
 first_hearing s moment ask service served c =
-    let n = ap length (found_around s moment ask service) ∙ length-map (λ (r : Recorded). shown_to s.owner.name r.reference) (around s moment ask service) in
+    let n = ap length (found_around s moment ask service) ∙ length-map (λ (r : Recorded). shown_to s.owner.name r.reference) (around s ask service) in
     let f = c.few in
     let b = left_found (round_with near) in
     let d = ap left round in
@@ -277,7 +277,7 @@ first_hearing s moment ask service served c =
     none_asked : (r : Recorded) → is_one_of r.reference.flight [] ≡ true → (p : OperationalIntent) × Has [] p × (p.reference.flight ≡ r.reference.flight)
     none_asked r h = cc
 
-    before : (r : Recorded) → Has (around s moment ask service) r → is_own s.owner r.reference ≡ false → (q : OperationalIntent) → Has (kept_pairs v.heard) q → q.reference.flight ≡ r.reference.flight
+    before : (r : Recorded) → Has (around s ask service) r → is_own s.owner r.reference ≡ false → (q : OperationalIntent) → Has (kept_pairs v.heard) q → q.reference.flight ≡ r.reference.flight
         → (q.reference.version ≤ r.reference.version) × (q.reference.version ≡ r.reference.version → served_of r.reference.flight r.reference.manager served ≡ Some q)
     before r h other q k e =
         let found : kept_pair r.reference.flight s.values.heard ≡ Some q =
@@ -285,37 +285,37 @@ first_hearing s moment ask service served c =
         let i = recorded_around s moment ask service r h in
         (c.calm.heard_no_newer r q i other found, c.calm.heard_same r q i other found)
 
-keyed : (s : Standing) (moment : ℤ) (ask : FlightAsk) (service : Service) (served : List OperationalIntent) → keeps_key ask.wish ≡ true → nat_lt 1024 (length (around s moment ask service)) ≡ false → IsPlan s moment ask service served
-    → ComesOutAs (IsOfChoice (is_new s ask) (its_flight s ask) (intents_around s moment ask service served) (choice_of s (opening_for s (clamped moment) ask) (intents_around s moment ask service served))) s.owner.name served s moment (Comes.Ask ask) service
+keyed : (s : Standing) (moment : ℤ) (ask : FlightAsk) (service : Service) (served : List OperationalIntent) → keeps_key ask.wish ≡ true → nat_lt 1024 (length (around s ask service)) ≡ false → IsPlan s moment ask service served
+    → ComesOutAs (IsOfChoice (is_new s ask) (its_flight s ask) (intents_around s ask service served) (choice_of s (opening_for s (clamped moment) ask) (intents_around s ask service served))) s.owner.name served s moment (Comes.Ask ask) service
 keyed s moment ask service served k few c =
     let o = opening_for s (clamped moment) ask in
     let s2 = looks_from s moment ask in
     let reply = found_there s ask service in
     let v = round_by_dss s2 o reply in
     let turn = finds_so s moment ask service served false k few c.sound c.calm ∙ by_next (with_values s2 v) o reply (next_unheard s.owner v.heard (round_of o.job v)) refl in
-    looks_so (IsOfChoice (is_new s ask) (its_flight s ask) (intents_around s moment ask service served) (choice_of s o (intents_around s moment ask service served))) s moment ask service served (key_is_no_end ask.wish k) c.sound c.calm
+    looks_so (IsOfChoice (is_new s ask) (its_flight s ask) (intents_around s ask service served) (choice_of s o (intents_around s ask service served))) s moment ask service served (key_is_no_end ask.wish k) c.sound c.calm
     (hears_all (left (round_of o.job v)) s moment ask service served s2.values v (Comes.Dss (record { job = o.job; ask = its_query ask }) reply) c (omega arith) (first_hearing s moment ask service served c) turn)
 
 requests_settle : (ask : FlightAsk) → Settles ask
 requests_settle ask s moment service served sound calm = at_key (keeps_key ask.wish) refl
   where
     many : Bool
-    many = nat_lt 1024 (length (around s moment ask service))
+    many = nat_lt 1024 (length (around s ask service))
 
     pairs : List OperationalIntent
-    pairs = intents_around s moment ask service served
+    pairs = intents_around s ask service served
 
     at_wish : (x : Wish) → ask.wish ≡ x → keeps_key x ≡ true → many ≡ false → ComesOutAs (IsOutcome s moment ask service served ask.wish) s.owner.name served s moment (Comes.Ask ask) service
     at_wish End w k few = cc
     at_wish (Put to priority rounds proposals) w k few =
-        let c : IsPlan s moment ask service served = record { to = to; priority = priority; rounds = rounds; proposals = proposals; wish = w; sound = sound; calm = calm; covers = area_covers ask service; few = not_less 1024 (length (around s moment ask service)) few } in
+        let c : IsPlan s moment ask service served = record { to = to; priority = priority; rounds = rounds; proposals = proposals; wish = w; sound = sound; calm = calm; covers = area_covers ask service; few = not_less 1024 (length (around s ask service)) few } in
         subst (λ (x : Wish). ComesOutAs (IsOutcome s moment ask service served x) s.owner.name served s moment (Comes.Ask ask) service) (sym w)
-        (subst (λ (b : Bool). ComesOutAs (IsPutOutcome (is_new s ask) (its_flight s ask) b (length (around s moment ask service)) pairs (choice_of s (opening_for s (clamped moment) ask) pairs)) s.owner.name served s moment (Comes.Ask ask) service) (sym k)
-        (subst (λ (b : Bool). ComesOutAs (IsKeyedOutcome (is_new s ask) (its_flight s ask) b (length (around s moment ask service)) pairs (choice_of s (opening_for s (clamped moment) ask) pairs)) s.owner.name served s moment (Comes.Ask ask) service) (sym few)
+        (subst (λ (b : Bool). ComesOutAs (IsPutOutcome (is_new s ask) (its_flight s ask) b (length (around s ask service)) pairs (choice_of s (opening_for s (clamped moment) ask) pairs)) s.owner.name served s moment (Comes.Ask ask) service) (sym k)
+        (subst (λ (b : Bool). ComesOutAs (IsKeyedOutcome (is_new s ask) (its_flight s ask) b (length (around s ask service)) pairs (choice_of s (opening_for s (clamped moment) ask) pairs)) s.owner.name served s moment (Comes.Ask ask) service) (sym few)
         (keyed s moment ask service served (ap keeps_key w ∙ k) few c)))
 
     at_many : (b : Bool) → many ≡ b → keeps_key ask.wish ≡ true → ComesOutAs (IsOutcome s moment ask service served ask.wish) s.owner.name served s moment (Comes.Ask ask) service
-    at_many true e k = crowded_plans_come_out ask s moment service served k (less_is 1024 (length (around s moment ask service)) e) sound calm
+    at_many true e k = crowded_plans_come_out ask s moment service served k (less_is 1024 (length (around s ask service)) e) sound calm
     at_many false e k = at_wish ask.wish refl k e
 
     at_key : (b : Bool) → keeps_key ask.wish ≡ b → ComesOutAs (IsOutcome s moment ask service served ask.wish) s.owner.name served s moment (Comes.Ask ask) service

@@ -104,12 +104,12 @@ pub record IsUndisturbed (s : Standing) (moment : ℤ) (ask : FlightAsk) (servic
       → served_of r.reference.flight r.reference.manager served ≡ Some p
 
 -- the recorded references of other flights that share with the ticket's area
-abbrev pub around : Standing → ℤ → FlightAsk → Service → List Recorded
-around s moment ask service = filter (λ (r : Recorded). not (r.reference.flight == its_flight s ask)) (found_in (area_of ask.wish) service.references)
+abbrev pub around : Standing → FlightAsk → Service → List Recorded
+around s ask service = filter (λ (r : Recorded). not (r.reference.flight == its_flight s ask)) (found_in (area_of ask.wish) service.references)
 
 -- with their intents
-abbrev pub intents_around : Standing → ℤ → FlightAsk → Service → List OperationalIntent → List OperationalIntent
-intents_around s moment ask service served = filter_map (intent_of s served) (around s moment ask service)
+abbrev pub intents_around : Standing → FlightAsk → Service → List OperationalIntent → List OperationalIntent
+intents_around s ask service served = filter_map (intent_of s served) (around s ask service)
 
 -- nothing is held of the request's flight
 abbrev pub is_new : Standing → FlightAsk → Bool
@@ -142,8 +142,8 @@ IsPutOutcome new flight false count pairs c said = IsRecordedBy new flight 0 sai
 -- what the request comes to
 abbrev pub IsOutcome : Standing → ℤ → FlightAsk → Service → List OperationalIntent → Wish → Said → Type 0
 IsOutcome s moment ask service served (Put to priority rounds proposals) said =
-    IsPutOutcome (is_new s ask) (its_flight s ask) (is_strategic to) (length (around s moment ask service)) (intents_around s moment ask service served)
-    (choice_of s (opening_for s (clamped moment) ask) (intents_around s moment ask service served)) said
+    IsPutOutcome (is_new s ask) (its_flight s ask) (is_strategic to) (length (around s ask service)) (intents_around s ask service served)
+    (choice_of s (opening_for s (clamped moment) ask) (intents_around s ask service served)) said
 IsOutcome s moment ask service served End said = said ≡ Says.Answer (Answers.Ended (its_flight s ask))
 
 -- there is a whole exchange from the request on
