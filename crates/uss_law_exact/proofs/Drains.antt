@@ -30,7 +30,8 @@ drain_is_deliveries (suc n) e =
     let v = exact_run e (next_delivery e) in
     drain_is_next e n ∙ (drain_is_deliveries n v ∙ sym (run_on (next_delivery e) (deliveries n v) e))
 
-pub drain_goes_on : (n : ℕ) (e : Exact) → exact_step e (Steps.Drain (suc n)) ≡ exact_run (exact_step e (Steps.Drain n)) (next_delivery (exact_step e (Steps.Drain n)))
+pub drain_goes_on : (n : ℕ) (e : Exact)
+    → exact_step e (Steps.Drain (suc n)) ≡ exact_run (exact_step e (Steps.Drain n)) (next_delivery (exact_step e (Steps.Drain n)))
 drain_goes_on zero e = drain_is_next e zero
 drain_goes_on (suc n) e =
     let v = exact_run e (next_delivery e) in
