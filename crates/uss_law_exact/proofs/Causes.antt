@@ -82,7 +82,8 @@ Cause book _ j = ⊥
 
 -- the refusals, by their numbers
 
-by_number : (ask : DssAsk) (refusal : DssRefusal) (kind : Awaited) → kind_of_ask ask ≡ Some kind → Settles kind (refusal_number refusal) → is_unsettling ask refusal ≡ true
+by_number : (ask : DssAsk) (refusal : DssRefusal) (kind : Awaited) → kind_of_ask ask ≡ Some kind → Settles kind (refusal_number refusal)
+    → is_unsettling ask refusal ≡ true
 by_number (Asks.Put flight ovn extents key state base ticket) refusal kind e h = put refusal (subst (λ k. Settles k (refusal_number refusal)) (sym (some_same Waits.Put kind e)) h)
   where
     put : (r : DssRefusal) → Settles Waits.Put (refusal_number r) → is_unsettling (Asks.Put flight ovn extents key state base ticket) r ≡ true
@@ -104,7 +105,8 @@ by_number (Asks.TicketGet ticket) refusal kind e h = cc
 heard_number : (n m : ℕ) → Hears.Refused n ≡ Hears.Refused m → n ≡ m
 heard_number n m e = cc
 
-heard_refused : (s : Standing) (o : Opening) (reply : DssReply) (n : ℕ) → heard_of_dss s o reply ≡ Hears.Refused n → (r : DssRefusal) × (reply ≡ Replies.Refused r) × (refusal_number r ≡ n)
+heard_refused : (s : Standing) (o : Opening) (reply : DssReply) (n : ℕ) → heard_of_dss s o reply ≡ Hears.Refused n
+    → (r : DssRefusal) × (reply ≡ Replies.Refused r) × (refusal_number r ≡ n)
 heard_refused s o (Replies.Refused r) n e = (r, refl, heard_number (refusal_number r) n e)
 heard_refused s o (Replies.Found references) n e = cc
 heard_refused s o (Replies.Got reference) n e = cc
@@ -157,7 +159,8 @@ round_dss_leaves : (s : Standing) (o : Opening) (reply : DssReply) (i : ℕ) →
 round_dss_leaves s o (Replies.Found references) i = round_leaves o.job _ s.values i
 round_dss_leaves s o _ i = refl
 
-round_peer_leaves : (s : Standing) (o : Opening) (call : PeerCall) (reply : PeerReply) (i : ℕ) → awaited_of i (round_by_peer s o call reply) ≡ awaited_of i s.values
+round_peer_leaves : (s : Standing) (o : Opening) (call : PeerCall) (reply : PeerReply) (i : ℕ)
+    → awaited_of i (round_by_peer s o call reply) ≡ awaited_of i s.values
 round_peer_leaves s o (Calls.Details job flight manager base) Peers.Gone i = round_leaves o.job _ s.values i
 round_peer_leaves s o (Calls.Details job flight manager base) (Peers.Served pair) i = refl
 round_peer_leaves s o (Calls.Details job flight manager base) Peers.Noted i = refl
@@ -169,7 +172,8 @@ unfolding view_of
 view_awaits s o = refl
 
 -- a call for the own flight is the one by the book
-pub own_call : (owner : Owner) (book : List Entry) (j : ℕ) (call : DssCall) (w : IsDssAwaited owner book j call) → IsGet call.ask → call.ask ≡ Asks.Get (flight_of owner w.opening)
+pub own_call : (owner : Owner) (book : List Entry) (j : ℕ) (call : DssCall) (w : IsDssAwaited owner book j call) → IsGet call.ask
+    → call.ask ≡ Asks.Get (flight_of owner w.opening)
 own_call owner book j call w g =
     let k : w.kind ≡ Waits.Get = some_same w.kind Waits.Get (sym w.is_of_kind ∙ g) in
     sym (some_same (Asks.Get (flight_of owner w.opening)) call.ask (subst (λ z. call_of owner book w.opening z ≡ Some call.ask) k w.is))
@@ -186,7 +190,8 @@ module _ (s : Standing) (fit : IsFit s.owner s.book s.values) where
     abbrev t : Standing
     t = with_values s v
 
-    acts_dss : opening_of call.job s.book ≡ Some o → is_closed o.job s.book ≡ false → awaited_of o.job s.values ≡ Some (Goes.Dss call) → IsGets s.values C (acting_on_dss t o reply)
+    acts_dss : opening_of call.job s.book ≡ Some o → is_closed o.job s.book ≡ false → awaited_of o.job s.values ≡ Some (Goes.Dss call)
+        → IsGets s.values C (acting_on_dss t o reply)
     acts_dss opened unclosed waits =
         moved C s.values v (acting_on_dss t o reply) (round_dss_leaves s o reply)
         (gets_carry_out C t o reply (on_reply (view_of t o) (heard_of_dss t o reply)) (on_reply_only (IsGetDue C t o) (view_of t o) (heard_of_dss t o reply) again refused))
@@ -209,7 +214,8 @@ module _ (s : Standing) (fit : IsFit s.owner s.book s.values) where
             let c : call ≡ record { job = o.job; ask = Asks.Get (flight_of s.owner o) } = (λ i. record { job = w.its_job i; ask = q' i }) in
             inl (waits_then ∙ ap (λ z. Some (Goes.Dss z)) c)
 
-        refused : (kind : Awaited) (n : ℕ) → (view_of t o).awaited ≡ Some kind → heard_of_dss t o reply ≡ Hears.Refused n → Settles kind n → IsGetDue C t o
+        refused : (kind : Awaited) (n : ℕ) → (view_of t o).awaited ≡ Some kind → heard_of_dss t o reply ≡ Hears.Refused n → Settles kind n
+            → IsGetDue C t o
         refused kind n e h k =
             let r = heard_refused t o reply n h in
             inr (record {
@@ -220,7 +226,8 @@ module _ (s : Standing) (fit : IsFit s.owner s.book s.values) where
               unfinished = rw (subst (λ j. opening_of j s.book ≡ Some o) (sym has.1) opened, unclosed) refl;
             })
 
-  gets_open_by_dss : (o : Opening) (call : DssCall) (reply : DssReply) → opening_of call.job s.book ≡ Some o → is_closed o.job s.book ≡ false → (b : Bool) → (fits call.ask reply && waits_for_dss s o call) ≡ b
+  gets_open_by_dss : (o : Opening) (call : DssCall) (reply : DssReply) → opening_of call.job s.book ≡ Some o → is_closed o.job s.book ≡ false
+      → (b : Bool) → (fits call.ask reply && waits_for_dss s o call) ≡ b
       → IsGets s.values (IsUnsettledBy s.book call reply) (open_by_dss s o reply b)
   gets_open_by_dss o call reply opened unclosed true e =
       acts_dss o call reply opened unclosed (awaited_dss call (awaited_of o.job s.values) (both (fits call.ask reply) (waits_for_dss s o call) e).1)
@@ -233,7 +240,8 @@ module _ (s : Standing) (fit : IsFit s.owner s.book s.values) where
       closed o true = quiet (IsUnsettledBy s.book call reply) s.values Says.Nothing
       closed o false = quiet (IsUnsettledBy s.book call reply) s.values Says.Nothing
 
-      by_job : (o : Opening) → opening_of call.job s.book ≡ Some o → (b : Bool) → is_closed o.job s.book ≡ b → IsGets s.values (IsUnsettledBy s.book call reply) (of_job_by_dss s o call reply b)
+      by_job : (o : Opening) → opening_of call.job s.book ≡ Some o → (b : Bool) → is_closed o.job s.book ≡ b
+          → IsGets s.values (IsUnsettledBy s.book call reply) (of_job_by_dss s o call reply b)
       by_job o e true c = closed o (retires s o call.ask reply)
       by_job o e false c = gets_open_by_dss o call reply e c (fits call.ask reply && waits_for_dss s o call) refl
 
@@ -292,7 +300,8 @@ module _ (s : Standing) (fit : IsFit s.owner s.book s.values) where
     gets_asked_after moment ask None = gets_new moment ask (new_refusal s.book moment ask)
     gets_asked_after moment ask (Some last) = at_old (nat_lt ask.number last.ask.number)
       where
-        at_same : (b : Bool) → IsGets s.values C (cond b (repeated_by s last (differing last.ask.wish ask.wish)) (new_by s moment ask (new_refusal s.book moment ask)))
+        at_same : (b : Bool)
+            → IsGets s.values C (cond b (repeated_by s last (differing last.ask.wish ask.wish)) (new_by s moment ask (new_refusal s.book moment ask)))
         at_same true = gets_repeated last (differing last.ask.wish ask.wish)
         at_same false = gets_new moment ask (new_refusal s.book moment ask)
 
@@ -319,7 +328,8 @@ module _ (s : Standing) (fit : IsFit s.owner s.book s.values) where
         of_job o true = quiet C s.values Says.Nothing
         of_job o false = open_job o (is_end o.ask.wish || is_some (decision_of o.job s.book))
 
-        numbered : (o : Opening) (b : Bool) → IsGets s.values C (cond b (cancelled_job s o (is_closed o.job s.book)) (refusing s (Whys.NotAsked o.ask.number)))
+        numbered : (o : Opening) (b : Bool)
+            → IsGets s.values C (cond b (cancelled_job s o (is_closed o.job s.book)) (refusing s (Whys.NotAsked o.ask.number)))
         numbered o true = of_job o (is_closed o.job s.book)
         numbered o false = quiet C s.values Says.Nothing
 
@@ -392,10 +402,12 @@ module _ (s : Standing) (fit : IsFit s.owner s.book s.values) where
     gets_notified note false = moved C s.values (hearing _ s.values) (notified_by s note false) (λ i. heard_leaves s.values _ i) (quiet C (hearing _ s.values) Says.Noted)
 
 -- hearing a pair leaves what fits
-hearing_fits : (s : Standing) (call : PeerCall) (reply : PeerReply) → IsFit s.owner s.book s.values → IsFit s.owner s.book (hearing_it s call reply).values
+hearing_fits : (s : Standing) (call : PeerCall) (reply : PeerReply) → IsFit s.owner s.book s.values
+    → IsFit s.owner s.book (hearing_it s call reply).values
 hearing_fits s call reply f = fit_hearing s.owner s.book s.values (heard_by call reply) f
 
-pub gets_stepped : (s : Standing) (moment : ℤ) (event : Event) → IsFit s.owner s.book s.values → IsGets s.values (Cause s.book event) (stepped s moment event)
+pub gets_stepped : (s : Standing) (moment : ℤ) (event : Event) → IsFit s.owner s.book s.values
+    → IsGets s.values (Cause s.book event) (stepped s moment event)
 gets_stepped s moment (Comes.Ask ask) f = gets_asked s f (λ j. ⊥) moment ask
 gets_stepped s moment (Comes.Cancel flight number) f = gets_cancelled s f (λ j. ⊥) flight number
 gets_stepped s moment (Comes.Position p) f = gets_positioned s f (λ j. ⊥) moment p

@@ -3,13 +3,14 @@ use Rattle.std.proofs.Common.{ℕ, zero, suc, ◌≡◌, List, [], ◌∷◌, �
 use Rattle.uss_event.specs.declared.steps.Step.{Step}
 use Rattle.uss_event.specs.declared.steps.Step.TheVariants as Steps
 use Rattle.uss_law_world.specs.Moves.{step_of, next_message, delivers_next, drains}
-use Rattle.uss_law_exact.specs.Exact.{Exact, choice_for, arrival_next, delivered, drain_choices, drain_kept, move_by, exact_step, exact_run, moves_of, script_of}
+use Rattle.uss_law_world.specs.Free.{arrival_of_next}
+use Rattle.uss_law_exact.specs.Exact.{Exact, choice_for, delivered, drain_choices, drain_kept, move_by, exact_step, exact_run, moves_of, script_of}
 use Rattle.uss_law_exact.specs.Drains.{delivery, next_delivery, deliveries}
 
 -- a drain with this message next
 abbrev with_next : Exact → ℕ → Option ℕ → Exact
 with_next e n o =
-    record { world = drains (delivers_next e.world (choice_for e (arrival_next e.world o)) o) (drain_choices n (delivered e o)); kept = drain_kept n (delivered e o) }
+    record { world = drains (delivers_next e.world (choice_for e (arrival_of_next e.world o)) o) (drain_choices n (delivered e o)); kept = drain_kept n (delivered e o) }
 
 drain_first : (e : Exact) (n : ℕ) (o : Option ℕ) → with_next e n o ≡ exact_step (exact_run e (delivery o)) (Steps.Drain n)
 drain_first e n None = refl
@@ -29,7 +30,8 @@ drain_is_deliveries (suc n) e =
     let v = exact_run e (next_delivery e) in
     drain_is_next e n ∙ (drain_is_deliveries n v ∙ sym (run_on (next_delivery e) (deliveries n v) e))
 
-pub drain_goes_on : (n : ℕ) (e : Exact) → exact_step e (Steps.Drain (suc n)) ≡ exact_run (exact_step e (Steps.Drain n)) (next_delivery (exact_step e (Steps.Drain n)))
+pub drain_goes_on : (n : ℕ) (e : Exact)
+    → exact_step e (Steps.Drain (suc n)) ≡ exact_run (exact_step e (Steps.Drain n)) (next_delivery (exact_step e (Steps.Drain n)))
 drain_goes_on zero e = drain_is_next e zero
 drain_goes_on (suc n) e =
     let v = exact_run e (next_delivery e) in

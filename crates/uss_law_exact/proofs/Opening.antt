@@ -102,7 +102,8 @@ module _ (P : ℤ → FlightAsk → Type 0) where
       go [] = tt
       go (t ∷ ts) = tt
 
-  holds : (s : Standing) (o : Opening) (owed : List Subscriber) (r : Reference) (t : Option ℕ) (v : Option (List ℕ)) → Opens P (holding_as s o owed r t v).entry
+  holds : (s : Standing) (o : Opening) (owed : List Subscriber) (r : Reference) (t : Option ℕ) (v : Option (List ℕ))
+      → Opens P (holding_as s o owed r t v).entry
   holds s o owed r None v = tt
   holds s o owed r (Some t) None = tt
   holds s o owed r (Some t) (Some v) = tt
@@ -204,7 +205,8 @@ module _ (P : ℤ → FlightAsk → Type 0) where
       of_job o true = tt
       of_job o false = opened o (is_end o.ask.wish || is_some (decision_of o.job s.book))
 
-      numbered : (o : Opening) (b : Bool) → Opens P (cond b (cancelled_job s o (is_closed o.job s.book)) (refusing s (Whys.NotAsked o.ask.number))).entry
+      numbered : (o : Opening) (b : Bool)
+          → Opens P (cond b (cancelled_job s o (is_closed o.job s.book)) (refusing s (Whys.NotAsked o.ask.number))).entry
       numbered o true = of_job o (is_closed o.job s.book)
       numbered o false = tt
 
@@ -234,7 +236,8 @@ module _ (P : ℤ → FlightAsk → Type 0) where
     opens_after None = opens_anew (new_refusal s.book moment ask)
     opens_after (Some last) = at_old (nat_lt ask.number last.ask.number)
       where
-        at_same : (b : Bool) → Opens P (cond b (repeated_by s last (differing last.ask.wish ask.wish)) (new_by s moment ask (new_refusal s.book moment ask))).entry
+        at_same : (b : Bool)
+            → Opens P (cond b (repeated_by s last (differing last.ask.wish ask.wish)) (new_by s moment ask (new_refusal s.book moment ask))).entry
         at_same true = opens_again last (differing last.ask.wish ask.wish)
         at_same false = opens_anew (new_refusal s.book moment ask)
 
@@ -258,7 +261,8 @@ module _ (s : Standing) (moment : ℤ) (p : PositionAsk) where
   by_position : Opens Acts (positioned s moment p).entry
   by_position = go (held p.flight s.book) refl
     where
-      acts : (pair : OperationalIntent) → held p.flight s.book ≡ Some pair → (found : Conform) → found ≡ found_with (sightings_of p.flight s.values) (sighting_of pair p moment)
+      acts : (pair : OperationalIntent) → held p.flight s.book ≡ Some pair → (found : Conform)
+          → found ≡ found_with (sightings_of p.flight s.values) (sighting_of pair p moment)
           → (x : Option Wish) → wished pair p pair.reference.state found ≡ x → Opens Acts (acting_as s moment p found x).entry
       acts pair e found f None q = tt
       acts pair e found f (Some wish) q =
@@ -274,7 +278,8 @@ module _ (s : Standing) (moment : ℤ) (p : PositionAsk) where
       later pair e (Some last) = tt
       later pair e None = is_judged pair e
 
-      for_job : (pair : OperationalIntent) → held p.flight s.book ≡ Some pair → (x : Option Opening) → Opens Acts (positioned_for s moment p pair x).entry
+      for_job : (pair : OperationalIntent) → held p.flight s.book ≡ Some pair → (x : Option Opening)
+          → Opens Acts (positioned_for s moment p pair x).entry
       for_job pair e (Some o) = resumes Acts s o
       for_job pair e None = later pair e (later_position (sightings_of p.flight s.values) moment)
 
@@ -288,7 +293,8 @@ IsAskedBy s moment (Comes.Ask asked) ask = asked ≡ ask
 IsAskedBy s moment (Comes.Position p) ask = ActsAs s.book s.values moment p ask
 IsAskedBy s moment _ ask = ⊥
 
-pub step_opens : (s : Standing) (moment : ℤ) (event : Event) → Opens (λ at ask. (at ≡ moment) × IsAskedBy s moment event ask) (stepped s moment event).entry
+pub step_opens : (s : Standing) (moment : ℤ) (event : Event)
+    → Opens (λ at ask. (at ≡ moment) × IsAskedBy s moment event ask) (stepped s moment event).entry
 step_opens s moment (Comes.Ask ask) = by_request (λ at asked. (at ≡ moment) × (ask ≡ asked)) s moment ask (refl, refl)
 step_opens s moment (Comes.Cancel flight number) = by_cancel _ s flight number
 step_opens s moment (Comes.Position p) = by_position s moment p

@@ -6,7 +6,7 @@ use Rattle.uss_law_world.specs.World.{supplier_in, post_at}
 use Rattle.uss_law_world.specs.Moves.{arrival_by, happens}
 use Rattle.uss_law_world.specs.Refused.{step_refusal}
 use Rattle.uss_law_world.proofs.Refused.{absent, nobody, unsent, stops_nobody, fails_nobody, unchanged}
-use Rattle.uss_law_exact.specs.Exact.{Exact, kept_for, kept_without, forgetting, move_by, kept_after, exact_step}
+use Rattle.uss_law_exact.specs.Exact.{Exact, kept_for, kept_at_stop, kept_at_restart, move_by, kept_after, exact_step}
 use Rattle.uss_law_exact.proofs.Drains.{move_is_of_step}
 
 kept_unchanged : (e : Exact) (step : Step) (n : ℕ) → step_refusal e.world step ≡ Some n → kept_after e step ≡ e.kept
@@ -19,8 +19,8 @@ kept_unchanged e (Steps.Deliver k) n q = ap (λ p. kept_for e (arrival_by e.worl
 kept_unchanged e (Steps.Lose k) n q = refl
 kept_unchanged e (Steps.Drain m) n q = cc
 kept_unchanged e (Steps.Fault k) n q = ap (kept_for e) (fails_nobody e.world (post_at k e.world) n q)
-kept_unchanged e (Steps.Restart s) n q = ap (forgetting e s) (absent (supplier_in s e.world.suppliers) n q)
-kept_unchanged e (Steps.Stop kept sent step) n q = ap (kept_without e) (stops_nobody e.world step n q)
+kept_unchanged e (Steps.Restart s) n q = ap (kept_at_restart e s) (absent (supplier_in s e.world.suppliers) n q)
+kept_unchanged e (Steps.Stop kept sent step) n q = ap (kept_at_stop e) (stops_nobody e.world step n q)
 
 pub refused_changes_nothing : (e : Exact) (step : Step) (n : ℕ) → step_refusal e.world step ≡ Some n → exact_step e step ≡ e
 refused_changes_nothing e step n q =

@@ -90,7 +90,8 @@ module _ (s job : ℕ) (moment : ℤ) (ask : FlightAsk) where
         go false q = inl (subst (λ o. Has (book_in o) opened) (other_supplier a.supplier s (stepped (choice_by t)) e.world.suppliers (λ z. refl) (other_number s a.supplier q)) h)
 
   arrival_adds : (e : Exact) (a : Arrival) → (x : Supplier) × (supplier_in a.supplier e.world.suppliers ≡ Some x) → (posts : Choice → List Post)
-      → IsIn (after_step e.world a (choice_for e (Some a)) (posts (choice_for e (Some a)))) → IsIn e.world ⊎ IsNew e (after_step e.world a (choice_for e (Some a)) (posts (choice_for e (Some a)))) a
+      → IsIn (after_step e.world a (choice_for e (Some a)) (posts (choice_for e (Some a))))
+      → IsIn e.world ⊎ IsNew e (after_step e.world a (choice_for e (Some a)) (posts (choice_for e (Some a)))) a
   arrival_adds e a x posts =
       subst (λ y. IsIn (after_step e.world a (chosen_by e a y) (posts (chosen_by e a y))) → IsIn e.world ⊎ IsNew e (after_step e.world a (chosen_by e a y) (posts (chosen_by e a y))) a) (sym x.1)
       (step_adds e a x.0 x.1 (posts (choice_by (turn_by e a x.0))))
@@ -126,12 +127,14 @@ module _ (s job : ℕ) (moment : ℤ) (ask : FlightAsk) where
   only_old e v a f (inl old) = old
   only_old e v a f (inr new) = absurd (f (standing_of e new.supplier a.supplier) (clamped e.world.moment) new.asked)
 
-  arrives_adds_none : (e : Exact) (o : Option Arrival) → ((a : Arrival) → o ≡ Some a → AsksNothing a × ((x : Supplier) × (supplier_in a.supplier e.world.suppliers ≡ Some x)))
+  arrives_adds_none : (e : Exact) (o : Option Arrival)
+      → ((a : Arrival) → o ≡ Some a → AsksNothing a × ((x : Supplier) × (supplier_in a.supplier e.world.suppliers ≡ Some x)))
       → IsIn (arrives e.world (choice_for e o) o) → IsIn e.world
   arrives_adds_none e None f h = h
   arrives_adds_none e (Some a) f h = only_old e (arrives e.world (choice_for e (Some a)) (Some a)) a (f a refl).0 (arrival_adds e a (f a refl).1 (λ c. posts_of e.world a c) h)
 
-  message_adds_none : (e : Exact) (k : ℕ) (o : Option Post) → IsIn (arrives e.world (choice_for e (arrival_by e.world k o)) (arrival_by e.world k o)) → IsIn e.world
+  message_adds_none : (e : Exact) (k : ℕ) (o : Option Post) → IsIn (arrives e.world (choice_for e (arrival_by e.world k o)) (arrival_by e.world k o))
+      → IsIn e.world
   message_adds_none e k o = arrives_adds_none e (arrival_by e.world k o) (λ a q. (message_asks e.world k o a q, message_there e.world k o a q))
 
   deliver_adds_none : (e : Exact) (k : ℕ) → IsIn (exact_step e (Steps.Deliver k)).world → IsIn e.world
@@ -196,7 +199,8 @@ module _ (s job : ℕ) (moment : ℤ) (ask : FlightAsk) where
   stop_leaves : (w : World) (step : Stopped) (k : ℕ) → book_of s (marked_by step (after_restart w k)) ≡ book_of s w
   stop_leaves w step k = marks_leave step (after_restart w k) ∙ restart_leaves w k
 
-  stop_adds : (e : Exact) (sent : ℕ) (step : Stopped) (o : Option Arrival) → arrival_of e.world step ≡ o → IsIn (stops e.world true sent step (choice_for e o) o)
+  stop_adds : (e : Exact) (sent : ℕ) (step : Stopped) (o : Option Arrival) → arrival_of e.world step ≡ o
+      → IsIn (stops e.world true sent step (choice_for e o) o)
       → IsIn e.world ⊎ IsAdded e (stops e.world true sent step (choice_for e o) o) (AsksBy e s ask step)
   stop_adds e sent step None q h = inl h
   stop_adds e sent step (Some a) q h =
@@ -207,7 +211,8 @@ module _ (s job : ℕ) (moment : ℤ) (ask : FlightAsk) where
         | inr n ↦ inr (record { asks = asks_by e v step a q n; moment_is = n.moment_is; enters = l ∙ n.enters })
       ]
 
-  unkept_adds_none : (e : Exact) (sent : ℕ) (step : Stopped) (o : Option Arrival) → IsIn (stops e.world false sent step (choice_for e o) o) → IsIn e.world
+  unkept_adds_none : (e : Exact) (sent : ℕ) (step : Stopped) (o : Option Arrival) → IsIn (stops e.world false sent step (choice_for e o) o)
+      → IsIn e.world
   unkept_adds_none e sent step None h = h
   unkept_adds_none e sent step (Some a) h = subst (λ b. Has b opened) (restart_leaves e.world a.supplier) h
 
@@ -262,5 +267,6 @@ module _ (s job : ℕ) (moment : ℤ) (ask : FlightAsk) where
           let m = has_map new_supplier owners x (has_found s (start owners).suppliers x q).0 in
           new_opens_none m.0 (subst (λ (z : Supplier). Has z.book opened) (sym m.2) h)
 
-  pub comes_of_request : (owners : List Owner) (steps : List Step) → IsIn (exact_run (exact_start owners) steps).world → ComesOfRequest (exact_start owners) steps s job moment ask
+  pub comes_of_request : (owners : List Owner) (steps : List Step) → IsIn (exact_run (exact_start owners) steps).world
+      → ComesOfRequest (exact_start owners) steps s job moment ask
   comes_of_request owners steps h = elim (run_adds steps (exact_start owners) h) [ inl old ↦ absurd (start_has_none owners old) | inr c ↦ c ]

@@ -84,11 +84,13 @@ IsGot w s job reply = (is_closed job (book_of s w) ≡ true) ⊎ IsOwnGot w s jo
 
 pub record Settled (w : World) (kept : ℕ → Values) : Type 0 where
   -- who waits for its own flight has its landing
-  pub awaits : (s j : ℕ) (x : Supplier) (call : DssCall) → supplier_in s w.suppliers ≡ Some x → awaited_of j (kept s) ≡ Some (Goes.Dss call) → IsGet call.ask → (l : Landing) × IsLandingOf w s j l
+  pub awaits : (s j : ℕ) (x : Supplier) (call : DssCall) → supplier_in s w.suppliers ≡ Some x → awaited_of j (kept s) ≡ Some (Goes.Dss call)
+      → IsGet call.ask → (l : Landing) × IsLandingOf w s j l
   -- and so has who asked for it
   pub calls : (s : ℕ) (call : DssCall) (f : ℕ) → Has w.posts (Called s call) → call.ask ≡ Asks.Get f → HasLanded w s call.job f
   -- who gets it, while its job is open
-  pub replies : (s k : ℕ) (call : DssCall) (reply : DssReply) (f : ℕ) → Has w.posts (Replied s k call reply) → call.ask ≡ Asks.Get f → IsGot w s call.job reply
+  pub replies : (s k : ℕ) (call : DssCall) (reply : DssReply) (f : ℕ) → Has w.posts (Replied s k call reply) → call.ask ≡ Asks.Get f
+      → IsGot w s call.job reply
   pub sayings : (x : Saying) → Has w.sayings x → IsSettled x.said
 
 -- what stays
@@ -160,7 +162,8 @@ follows_restart w s =
       landings = λ l h. h;
     }
 
-landings_kept : (s : Service) (client : List ℕ) (ask : DssAsk) (out : DssReply × Service) → Effect s client ask out → (l : Landing) → Has s.landings l → Has out.1.landings l
+landings_kept : (s : Service) (client : List ℕ) (ask : DssAsk) (out : DssReply × Service) → Effect s client ask out → (l : Landing)
+    → Has s.landings l → Has out.1.landings l
 landings_kept s client ask out (lands e) l h =
     subst (λ (z : DssReply × Service). Has z.1.landings l) (sym e.out_is) (has_left s.landings (landing_of s client e.flight e.ovn e.base e.ticket ∷ []) l h)
 landings_kept s client ask out (removes e) l h = subst (λ (z : DssReply × Service). Has z.1.landings l) (sym e.out_is) h
@@ -178,7 +181,8 @@ sent_reply : (xs : List Supplier) (s : ℕ) (y : Outgoing) (k n : ℕ) (call : D
 sent_reply xs s (Goes.Dss c) k n call reply e = cc
 sent_reply xs s (Goes.Peer c) k n call reply e = cc
 
-only_answers : (P : Post → Type 0) → ((to answered : ℕ) (call : PeerCall) (reply : PeerReply) → P (Answered to answered call reply)) → (k : Option Asker) (said : Said) (p : Post) → Has (answer_to k said) p → P p
+only_answers : (P : Post → Type 0) → ((to answered : ℕ) (call : PeerCall) (reply : PeerReply) → P (Answered to answered call reply))
+    → (k : Option Asker) (said : Said) (p : Post) → Has (answer_to k said) p → P p
 only_answers P f None said p h = absurd h
 only_answers P f (Some k) said p h = go (reply_by said) h
   where
@@ -235,14 +239,16 @@ module _ (table : List ℕ) (owners : List Owner) (names : AreSuppliers table ow
   waits_then q call k o = elim (gets.waits q call k o) [ inl old ↦ g.awaits s q x call is old o | inr h ↦ cause_landing a.event i.brought q h ]
 
   -- a reply for the own flight
-  got_own : (call : DssCall) (reply : DssReply) (n f : ℕ) → Has w.posts (Replied s n call reply) → call.ask ≡ Asks.Get f → is_open call.job x.book ≡ true → IsOwnGot w s call.job reply
+  got_own : (call : DssCall) (reply : DssReply) (n f : ℕ) → Has w.posts (Replied s n call reply) → call.ask ≡ Asks.Get f
+      → is_open call.job x.book ≡ true → IsOwnGot w s call.job reply
   got_own call reply n f h k u =
       elim (g.replies s n call reply f h k) [
         | inl d ↦ not_both (is_closed call.job x.book) (subst (λ z. is_closed call.job z ≡ true) book_is d) (open_parts x.book call.job u).2
         | inr o ↦ o
       ]
 
-  settled_by : (owner : Owner) (ev : Event) (tag : ℕ) → SayingHasCause owner x.book (clamped w.moment) ev (Says.Answer (Answers.Unsettled tag)) → IsBrought w s ev → ⊥
+  settled_by : (owner : Owner) (ev : Event) (tag : ℕ) → SayingHasCause owner x.book (clamped w.moment) ev (Says.Answer (Answers.Unsettled tag))
+      → IsBrought w s ev → ⊥
   settled_by owner (Comes.Dss call reply) tag h b =
       let u : UnsettledBy owner x.book call reply tag = h in
       let o = got_own call reply b.0 (flight_of owner u.its_call.opening) b.1 u.its_call.is u.unfinished in
@@ -259,7 +265,8 @@ module _ (table : List ℕ) (owners : List Owner) (names : AreSuppliers table ow
       go (Says.Answer (Answers.Unsettled tag)) h = absurd (settled_by (allowed e f a i x is).acts.owner a.event tag h i.brought)
       go _ h = tt
 
-  pub unrefused : (call : DssCall) (reply : DssReply) (flight number : ℕ) → a.event ≡ Comes.Dss call reply → call.ask ≡ Asks.Get flight → t.said ≡ Says.Answer (Answers.DssRefused number) → ⊥
+  pub unrefused : (call : DssCall) (reply : DssReply) (flight number : ℕ) → a.event ≡ Comes.Dss call reply → call.ask ≡ Asks.Get flight
+      → t.said ≡ Says.Answer (Answers.DssRefused number) → ⊥
   unrefused call reply flight number q k h =
       let b : IsBrought w s (Comes.Dss call reply) = subst (IsBrought w s) q i.brought in
       let m = subst (λ z. SayingHasCause (allowed e f a i x is).acts.owner x.book (clamped w.moment) z t.said) q (allowed e f a i x is).acts.cause in
@@ -267,7 +274,8 @@ module _ (table : List ℕ) (owners : List Owner) (names : AreSuppliers table ow
       let o = got_own call reply b.0 flight b.1 k u.unfinished in
       subst (λ z. RefusesWith z number) o.is u.refused
 
-  pub settled_step : (posts : List Post) → ((p : Post) → Has posts p → Has (posts_of w a c) p) → Settled (after_step w a c posts) (keeping s t.values e.kept)
+  pub settled_step : (posts : List Post) → ((p : Post) → Has posts p → Has (posts_of w a c) p)
+      → Settled (after_step w a c posts) (keeping s t.values e.kept)
   settled_step posts sub =
       record {
         awaits = λ k q y call n h o. at k (k == s) refl q y call n h o;
@@ -282,8 +290,10 @@ module _ (table : List ℕ) (owners : List Owner) (names : AreSuppliers table ow
         sayings = λ y h. elim (has_push w.sayings (saying_of a c (book_after (book_of s w) c.entry)) y h) [ inl old ↦ g.sayings y old | inr q ↦ subst (λ (z : Saying). IsSettled z.said) q said_settled ];
       }
     where
-      at : (k : ℕ) (b : Bool) → (k == s) ≡ b → (q : ℕ) (y : Supplier) (call : DssCall) → supplier_in k (with_supplier s (stepped c) w.suppliers) ≡ Some y
-          → awaited_of q (if b then t.values else e.kept k) ≡ Some (Goes.Dss call) → IsGet call.ask → (l : Landing) × IsLandingOf (after_step w a c posts) k q l
+      at : (k : ℕ) (b : Bool) → (k == s) ≡ b → (q : ℕ) (y : Supplier) (call : DssCall)
+          → supplier_in k (with_supplier s (stepped c) w.suppliers) ≡ Some y
+          → awaited_of q (if b then t.values else e.kept k) ≡ Some (Goes.Dss call) → IsGet call.ask
+          → (l : Landing) × IsLandingOf (after_step w a c posts) k q l
       at k true d q y call n h o =
           let l = waits_then q call h o in
           (l.0, landing_then (follows_step w a c posts) k q l.0 (subst (λ z. IsLandingOf w z q l.0) (sym (same_number k s d)) l.1))
@@ -309,7 +319,8 @@ module _ (table : List ℕ) (owners : List Owner) (names : AreSuppliers table ow
             landed = landing_then (follows_step w a c posts) s call.job l.0 l.1;
           }
 
-      new_call : (k : ℕ) (call : DssCall) (n : ℕ) → Has (posts_of w a c) (Called k call) → call.ask ≡ Asks.Get n → HasLanded (after_step w a c posts) k call.job n
+      new_call : (k : ℕ) (call : DssCall) (n : ℕ) → Has (posts_of w a c) (Called k call) → call.ask ≡ Asks.Get n
+          → HasLanded (after_step w a c posts) k call.job n
       new_call k call n h o = elim (has_append (map (post_of w.suppliers s) c.sends) (answer_to a.asker c.said) (Called k call) h) [
         | inl q ↦ (let m = has_map (post_of w.suppliers s) c.sends (Called k call) q in
             let p = sent_call w.suppliers s m.0 k call m.2 in
@@ -324,8 +335,10 @@ module _ (table : List ℕ) (owners : List Owner) (names : AreSuppliers table ow
       ]
 
 -- whatever comes
-pub settled_arrival : (table : List ℕ) (owners : List Owner) → AreSuppliers table owners → (e : Exact) → Facts table owners e.world → IsFine e.world e.kept → Settled e.world e.kept → (a : Arrival) → IsArrival e.world a
-    → (posts : Choice → List Post) → ((c : Choice) (p : Post) → Has (posts c) p → Has (posts_of e.world a c) p) → Settled (after_step e.world a (choice_for e (Some a)) (posts (choice_for e (Some a)))) (kept_for e (Some a))
+pub settled_arrival : (table : List ℕ) (owners : List Owner) → AreSuppliers table owners → (e : Exact) → Facts table owners e.world
+    → IsFine e.world e.kept → Settled e.world e.kept → (a : Arrival) → IsArrival e.world a
+    → (posts : Choice → List Post) → ((c : Choice) (p : Post) → Has (posts c) p → Has (posts_of e.world a c) p)
+    → Settled (after_step e.world a (choice_for e (Some a)) (posts (choice_for e (Some a)))) (kept_for e (Some a))
 settled_arrival table owners names e j f g a i posts sub =
     subst (λ y. Settled (after_step e.world a (chosen_by e a y) (posts (chosen_by e a y))) (kept_by e a y)) (sym i.there)
     (settled_step table owners names e j f g a i i.supplier i.there (posts (choice_by (turn_by e a i.supplier))) (sub (choice_by (turn_by e a i.supplier))))
@@ -335,7 +348,8 @@ pub nothing_awaited : {P : Type 0} (q : ℕ) (call : DssCall) → awaited_of q n
 unfolding progress_of
 nothing_awaited q call h = cc
 
-pub settled_restart : (w : World) (earlier kept : ℕ → Values) (s : ℕ) → ((k : ℕ) → (k == s) ≡ false → earlier k ≡ kept k) → Settled w earlier → Settled (after_restart w s) (keeping s no_values kept)
+pub settled_restart : (w : World) (earlier kept : ℕ → Values) (s : ℕ) → ((k : ℕ) → (k == s) ≡ false → earlier k ≡ kept k) → Settled w earlier
+    → Settled (after_restart w s) (keeping s no_values kept)
 settled_restart w earlier kept s agree g =
     record {
       awaits = λ k q y call n h o. at k (k == s) refl q y call n h o;
@@ -345,7 +359,8 @@ settled_restart w earlier kept s agree g =
     }
   where
     at : (k : ℕ) (b : Bool) → (k == s) ≡ b → (q : ℕ) (y : Supplier) (call : DssCall) → supplier_in k (with_supplier s restarted w.suppliers) ≡ Some y
-        → awaited_of q (if b then no_values else kept k) ≡ Some (Goes.Dss call) → IsGet call.ask → (l : Landing) × IsLandingOf (after_restart w s) k q l
+        → awaited_of q (if b then no_values else kept k) ≡ Some (Goes.Dss call) → IsGet call.ask
+        → (l : Landing) × IsLandingOf (after_restart w s) k q l
     at k true d q y call n h o = nothing_awaited q call h
     at k false d q y call n h o =
         let l = g.awaits k q y call (sym (other_supplier s k restarted w.suppliers (λ z. refl) (other_number k s d)) ∙ n) (ap (awaited_of q) (agree k d) ∙ h) o in
@@ -353,7 +368,8 @@ settled_restart w earlier kept s agree g =
 
 -- the discovery service takes a call
 
-replied_is : (s k s' k' : ℕ) (call call' : DssCall) (reply reply' : DssReply) → Replied s k call reply ≡ Replied s' k' call' reply' → (s ≡ s') × (call ≡ call') × (reply ≡ reply')
+replied_is : (s k s' k' : ℕ) (call call' : DssCall) (reply reply' : DssReply) → Replied s k call reply ≡ Replied s' k' call' reply'
+    → (s ≡ s') × (call ≡ call') × (reply ≡ reply')
 replied_is s k s' k' call call' reply reply' e = (cc, cc, cc)
 
 shown_is : (r : Reference) (o : List ℕ) → r.ovn ≡ Some o → unwrap_or (shown_tag r) 0 ≡ tag_in r

@@ -40,7 +40,8 @@ use Rattle.uss_law_exact.proofs.Fine.{IsNoted, IsPost, IsSoundWith, IsFine, IsAr
 ticket_is : (t u : ℕ) (a b : Volume4D) (x y : List ℕ) → Asks.TicketPut t a x ≡ Asks.TicketPut u b y → (t ≡ u) × (x ≡ y)
 ticket_is t u a b x y e = (cc, cc)
 
-call_typed : (owner : Owner) (book : List Entry) (v : Values) → IsSound owner book v → (job : ℕ) (ask : DssAsk) → TicketsAreDue owner book job ask → IsCall ask
+call_typed : (owner : Owner) (book : List Entry) (v : Values) → IsSound owner book v → (job : ℕ) (ask : DssAsk) → TicketsAreDue owner book job ask
+    → IsCall ask
 call_typed owner book v i job (Asks.TicketPut ticket area base) d =
     let t : IsTicketPutOf owner book job (Asks.TicketPut ticket area base) = d.0 in
     let s = sound_of owner book v i in
@@ -62,11 +63,13 @@ note_typed owner book v i (Calls.Notify job place base note) h = go note.pair h
     go None h = tt
     go (Some p) h = pair_typed owner book v i p h
 
-reply_of_pair : (owner : Owner) (book : List Entry) (v : Values) → IsSound owner book v → (x : Option OperationalIntent) → IfSome x (IsHeldPair book) → IsPeerReply (pair_reply x)
+reply_of_pair : (owner : Owner) (book : List Entry) (v : Values) → IsSound owner book v → (x : Option OperationalIntent) → IfSome x (IsHeldPair book)
+    → IsPeerReply (pair_reply x)
 reply_of_pair owner book v i None h = tt
 reply_of_pair owner book v i (Some p) h = pair_typed owner book v i p h
 
-said_typed : (owner : Owner) (book : List Entry) (v : Values) → IsSound owner book v → (said : Said) → PairIsHeld book said → (reply : PeerReply) → reply_by said ≡ Some reply → IsPeerReply reply
+said_typed : (owner : Owner) (book : List Entry) (v : Values) → IsSound owner book v → (said : Said) → PairIsHeld book said → (reply : PeerReply)
+    → reply_by said ≡ Some reply → IsPeerReply reply
 said_typed owner book v i (Says.Pair pair) h reply e = subst IsPeerReply (some_same (pair_reply pair) reply e) (reply_of_pair owner book v i pair h)
 said_typed owner book v i Says.Noted h reply e = subst IsPeerReply (some_same _ reply e) tt
 said_typed owner book v i Says.NotManager h reply e = subst IsPeerReply (some_same _ reply e) tt
@@ -131,7 +134,8 @@ module _ (e : Exact) (f : IsFine e.world e.kept) (a : Arrival) (i : IsArrival e.
   stepped_sound : IsSoundWith (stepped c x) t.values
   stepped_sound = record { sound = sound_then; heard = refl }
 
-  pub fine_step : (posts : List Post) → ((p : Post) → Has posts p → Has (posts_of w a c) p) → IsFine (after_step w a c posts) (keeping s t.values e.kept)
+  pub fine_step : (posts : List Post) → ((p : Post) → Has posts p → Has (posts_of w a c) p)
+      → IsFine (after_step w a c posts) (keeping s t.values e.kept)
   fine_step posts sub =
       record {
         sound = λ k y g. at k (k == s) refl y g;
@@ -139,7 +143,8 @@ module _ (e : Exact) (f : IsFine e.world e.kept) (a : Arrival) (i : IsArrival e.
         tickets = f.tickets;
       }
     where
-      at : (k : ℕ) (b : Bool) → (k == s) ≡ b → (y : Supplier) → supplier_in k (with_supplier s (stepped c) w.suppliers) ≡ Some y → IsSoundWith y (if b then t.values else e.kept k)
+      at : (k : ℕ) (b : Bool) → (k == s) ≡ b → (y : Supplier) → supplier_in k (with_supplier s (stepped c) w.suppliers) ≡ Some y
+          → IsSoundWith y (if b then t.values else e.kept k)
       at k true q y g =
           let g' : supplier_in s (with_supplier s (stepped c) w.suppliers) ≡ Some y = subst (λ z. supplier_in z (with_supplier s (stepped c) w.suppliers) ≡ Some y) (same_number k s q) g in
           subst (λ z. IsSoundWith z t.values) (some_same (stepped c x) y (sym (same_supplier s (stepped c) w.suppliers x (λ z. refl) is) ∙ g')) stepped_sound
@@ -147,18 +152,21 @@ module _ (e : Exact) (f : IsFine e.world e.kept) (a : Arrival) (i : IsArrival e.
 
 -- whatever comes
 
-pub may_take : (e : Exact) → IsFine e.world e.kept → (o : Option Arrival) → ((a : Arrival) → o ≡ Some a → IsArrival e.world a) → MayTake e.world (choice_for e o) o
+pub may_take : (e : Exact) → IsFine e.world e.kept → (o : Option Arrival) → ((a : Arrival) → o ≡ Some a → IsArrival e.world a)
+    → MayTake e.world (choice_for e o) o
 may_take e f None i = tt
 may_take e f (Some a) i =
     let x = i a refl in
     subst (λ y. MayTake e.world (chosen_by e a y) (Some a)) (sym x.there) (may e f a x x.supplier x.there)
 
 pub fine_arrival : (e : Exact) → IsFine e.world e.kept → (a : Arrival) → IsArrival e.world a → (posts : Choice → List Post)
-    → ((c : Choice) (p : Post) → Has (posts c) p → Has (posts_of e.world a c) p) → IsFine (after_step e.world a (choice_for e (Some a)) (posts (choice_for e (Some a)))) (kept_for e (Some a))
+    → ((c : Choice) (p : Post) → Has (posts c) p → Has (posts_of e.world a c) p)
+    → IsFine (after_step e.world a (choice_for e (Some a)) (posts (choice_for e (Some a)))) (kept_for e (Some a))
 fine_arrival e f a i posts sub =
     subst (λ y. IsFine (after_step e.world a (chosen_by e a y) (posts (chosen_by e a y))) (kept_by e a y)) (sym i.there)
     (fine_step e f a i i.supplier i.there (posts (choice_by (turn_by e a i.supplier))) (sub (choice_by (turn_by e a i.supplier))))
 
-pub fine_arrives : (e : Exact) → IsFine e.world e.kept → (o : Option Arrival) → ((a : Arrival) → o ≡ Some a → IsArrival e.world a) → IsFine (arrives e.world (choice_for e o) o) (kept_for e o)
+pub fine_arrives : (e : Exact) → IsFine e.world e.kept → (o : Option Arrival) → ((a : Arrival) → o ≡ Some a → IsArrival e.world a)
+    → IsFine (arrives e.world (choice_for e o) o) (kept_for e o)
 fine_arrives e f None i = f
 fine_arrives e f (Some a) i = fine_arrival e f a (i a refl) (λ c. posts_of e.world a c) (λ c p h. h)

@@ -18,7 +18,8 @@ use Rattle.uss_law_world.specs.WorkedSweeps.{told}
 use Rattle.uss_law_world.specs.Contested.{given_up}
 use Rattle.uss_law_world.proofs.Product.{numbered_are_suppliers}
 use Rattle.uss_law_exact.specs.Exact.{script_of, AreTyped}
-use Rattle.uss_law_supplier.specs.Flown.{flown_ask, around_it, strays}
+use Rattle.uss_law_duty.specs.Flown.{flown_ask, around_it}
+use Rattle.uss_law_supplier.specs.Flown.{strays}
 use Rattle.uss_law_exact.specs.WorkedFlight.{ended_ask, whole_life}
 use Rattle.uss_law_exact.specs.Worked.{later, later_proposal, later_ask, both_asked}
 

@@ -26,7 +26,9 @@ DrainsAreDeliveries = (e : Exact) (n : ℕ) → exact_step e (Steps.Drain n) ≡
 
 -- and a longer drain goes on where a shorter one ends
 abbrev pub DrainsGoOn : Type 0
-DrainsGoOn = (e : Exact) (n : ℕ) → exact_step e (Steps.Drain (suc n)) ≡ exact_run (exact_step e (Steps.Drain n)) (next_delivery (exact_step e (Steps.Drain n)))
+DrainsGoOn =
+    (e : Exact) (n : ℕ) → exact_step e (Steps.Drain (suc n)) ≡
+    exact_run (exact_step e (Steps.Drain n)) (next_delivery (exact_step e (Steps.Drain n)))
 
 -- a message that a drain delivers: it is the next after fewer deliveries
 pub record IsDrained (e : Exact) (n : ℕ) (at : Exact) (k : ℕ) : Type 0 where

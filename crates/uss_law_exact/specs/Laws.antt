@@ -20,21 +20,26 @@ use Rattle.uss_law_exact.specs.Drains.{Delivers}
 
 -- it holds of every world that a script of exact suppliers leads to
 abbrev pub InEachWorld : (List ℕ → List Owner → World → Type 0) → Type 0
-InEachWorld P = (table : List ℕ) (owners : List Owner) (steps : List Step) → AreSuppliers table owners → AreTyped steps → P table owners (exact_run (exact_start owners) steps).world
+InEachWorld P =
+    (table : List ℕ) (owners : List Owner) (steps : List Step) → AreSuppliers table owners → AreTyped steps →
+    P table owners (exact_run (exact_start owners) steps).world
 
 -- and of each two worlds, the second of which the script leads to from the first
 abbrev pub FromThenOn : (World → World → Type 0) → Type 0
 FromThenOn P =
-    (table : List ℕ) (owners : List Owner) (steps more : List Step) → AreSuppliers table owners → AreTyped (steps ++ more)
-    → P (exact_run (exact_start owners) steps).world (exact_run (exact_start owners) (steps ++ more)).world
+    (table : List ℕ) (owners : List Owner) (steps more : List Step) → AreSuppliers table owners → AreTyped (steps ++ more) →
+    P (exact_run (exact_start owners) steps).world (exact_run (exact_start owners) (steps ++ more)).world
 
 -- the run of exact suppliers is a free one, so what holds of free runs holds of it: its world is the one that its moves lead to
 abbrev pub ExactRunsAreFree : Type 0
 ExactRunsAreFree =
-    (table : List ℕ) (owners : List Owner) (steps : List Step) → AreSuppliers table owners → AreTyped steps → IsFree (start owners) (moves_of (exact_start owners) steps)
+    (table : List ℕ) (owners : List Owner) (steps : List Step) → AreSuppliers table owners → AreTyped steps →
+    IsFree (start owners) (moves_of (exact_start owners) steps)
 
 abbrev pub ExactWorldsAreRun : Type 0
-ExactWorldsAreRun = (owners : List Owner) (steps : List Step) → (exact_run (exact_start owners) steps).world ≡ run (start owners) (moves_of (exact_start owners) steps)
+ExactWorldsAreRun =
+    (owners : List Owner) (steps : List Step) →
+    (exact_run (exact_start owners) steps).world ≡ run (start owners) (moves_of (exact_start owners) steps)
 
 -- each step of the script has its move
 abbrev pub MovesAreOfScript : Type 0
@@ -52,13 +57,15 @@ IsSettled _ = Unit {0}
 abbrev pub NoJobIsUnsettled : Type 0
 NoJobIsUnsettled = InEachWorld (λ table owners w. (x : Saying) → Has w.sayings x → IsSettled x.said)
 
--- nor that the discovery service refused it its own flight's reference: not in a step that delivers, drains or stops
+-- nor that the discovery service refused it its own flight's reference, whether the reply comes alone, in a drain, or where the supplier
+-- stops
 abbrev pub IsUnrefused : Said → Type 0
 IsUnrefused (Says.Answer (Answers.DssRefused number)) = ⊥
 IsUnrefused _ = Unit {0}
 
 abbrev pub NoOwnFlightIsRefused : Type 0
 NoOwnFlightIsRefused =
-    (table : List ℕ) (owners : List Owner) (steps : List Step) (step : Step) (at : Exact) (k : ℕ) (a : Arrival) (call : DssCall) (reply : DssReply) (flight : ℕ) → AreSuppliers table owners → AreTyped steps
-    → Delivers (exact_run (exact_start owners) steps) step at k → arrival_of at.world (Turns.Deliver k) ≡ Some a → a.event ≡ Comes.Dss call reply → call.ask ≡ Asks.Get flight
-    → IsUnrefused (choice_for at (Some a)).said
+    (table : List ℕ) (owners : List Owner) (steps : List Step) → AreSuppliers table owners → AreTyped steps →
+    (step : Step) (at : Exact) (k : ℕ) → Delivers (exact_run (exact_start owners) steps) step at k →
+    (a : Arrival) (call : DssCall) (reply : DssReply) (flight : ℕ) → arrival_of at.world (Turns.Deliver k) ≡ Some a →
+    a.event ≡ Comes.Dss call reply → call.ask ≡ Asks.Get flight → IsUnrefused (choice_for at (Some a)).said

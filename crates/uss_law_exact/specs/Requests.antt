@@ -49,9 +49,11 @@ pub record ComesOfRequest (first : Exact) (steps : List Step) (s job : ℕ) (mom
   pub script : steps ≡ before ++ step ∷ after
   pub asks : Asks (exact_run first before) s ask step
   pub moment_is : moment ≡ clamped (exact_run first before).world.moment
-  pub enters : book_of s (exact_step (exact_run first before) step).world ≡ book_of s (exact_run first before).world ++ Enters.Opened job moment ask ∷ []
+  pub enters : book_of s (exact_step (exact_run first before) step).world ≡
+      book_of s (exact_run first before).world ++ Enters.Opened job moment ask ∷ []
 
 abbrev pub EachJobComesOfRequest : Type 0
 EachJobComesOfRequest =
-    (owners : List Owner) (steps : List Step) (s job : ℕ) (moment : ℤ) (ask : FlightAsk) → Has (book_of s (exact_run (exact_start owners) steps).world) (Enters.Opened job moment ask)
-    → ComesOfRequest (exact_start owners) steps s job moment ask
+    (owners : List Owner) (steps : List Step) (s job : ℕ) (moment : ℤ) (ask : FlightAsk) →
+    Has (book_of s (exact_run (exact_start owners) steps).world) (Enters.Opened job moment ask) →
+    ComesOfRequest (exact_start owners) steps s job moment ask

@@ -14,7 +14,8 @@ use Rattle.uss_event.specs.declared.events.Said.TheVariants as Says
 use Rattle.uss_event.specs.declared.steps.Step.{Step}
 use Rattle.uss_event.specs.declared.steps.Step.TheVariants as Steps
 use Rattle.uss_law_duty.specs.Worked.{owner, now, ask, flight, ovn, planned}
-use Rattle.uss_law_supplier.specs.Flown.{flown_ask, flown_ovn, changed, first_seen, two_minutes_later, strays, nonconforming_book}
+use Rattle.uss_law_duty.specs.Flown.{flown_ask, flown_ovn, changed, first_seen}
+use Rattle.uss_law_supplier.specs.Flown.{two_minutes_later, strays, nonconforming_book}
 use Rattle.uss_law_world.specs.World.{Saying, World}
 use Rattle.uss_law_exact.specs.Exact.{exact_start, exact_run}
 
