@@ -10,9 +10,9 @@ use Rattle.uss_law_book.specs.Readings.{opening_of, open_job_of, is_closed}
 use Rattle.uss_law_duty.specs.Duties.{says_something, clamped, is_ticket_remove, is_notify, is_awaited, is_prompting, MayStep}
 use Rattle.uss_law_duty.specs.Answers.{job_of_call}
 use Rattle.uss_law_supplier.specs.Turns.{Standing, Turn}
-use Rattle.uss_law_supplier.specs.Jobs.{rounds_of}
+use Rattle.uss_law_book.specs.Readings.{rounds_of}
 use Rattle.uss_law_supplier.specs.Typed.{IsEvent}
-use Rattle.uss_law_supplier.specs.Laws.{LegalBooksKeepRoom, IsSound}
+use Rattle.uss_law_supplier.specs.Laws.{IsSound}
 use Rattle.uss_law_supplier.proofs.Law.{steps_keep_duties, steps_stay_sound}
 use Rattle.uss_law_asking.specs.Exchange.{Exchanged, is_operators, call_in, event_in, turn_of, stands_then, IsBegun, last_turn, AllFit, AllTyped, most_found, found_before, ExchangesGoOn}
 use Rattle.uss_law_asking.specs.Exchange.Exchanged.{OfDss, OfPeer}
@@ -51,34 +51,33 @@ operators_prompt (Comes.Cancel flight number) book h = refl
 operators_prompt (Comes.Position p) book h = refl
 operators_prompt _ book h = cc
 
-module _ (room : LegalBooksKeepRoom) where
-  pub sound_then : (s : Standing) (moment : ℤ) (event : Event) → IsSoundAt s → IsEvent event → IsSoundAt (stands_then s (turn_of s moment event))
-  sound_then s moment event sound typed = steps_stay_sound s.owner s.book s.values moment event sound typed (room s.book sound.legal)
+pub sound_then : (s : Standing) (moment : ℤ) (event : Event) → IsSoundAt s → IsEvent event → IsSoundAt (stands_then s (turn_of s moment event))
+sound_then s moment event sound typed = steps_stay_sound s.owner s.book s.values moment event sound typed
 
-  may_step : (s : Standing) (moment : ℤ) (event : Event) → IsSoundAt s → IsEvent event
-      → MayStep s.book s.values.heard (clamped moment) event (turn_of s moment event).entry (turn_of s moment event).sends (turn_of s moment event).said (turn_of s moment event).values.heard
-  may_step s moment event sound typed = steps_keep_duties s.owner s.book s.values moment event sound typed (room s.book sound.legal)
+may_step : (s : Standing) (moment : ℤ) (event : Event) → IsSoundAt s → IsEvent event
+    → MayStep s.book s.values.heard (clamped moment) event (turn_of s moment event).entry (turn_of s moment event).sends (turn_of s moment event).said (turn_of s moment event).values.heard
+may_step s moment event sound typed = steps_keep_duties s.owner s.book s.values moment event sound typed
 
-  -- after a reply
-  on_from : (n : ℕ) (s : Standing) (moment : ℤ) (o : Opening) (x : Exchanged) (xs : List Exchanged) (b : ℕ) → IsSoundAt s → IsWaiting n s o (call_in x) b → IsBegun s moment (event_in x) xs → AllFit (x ∷ xs) → AllTyped (x ∷ xs)
-      → most_found (x ∷ xs) ≤ n → (says_something (last_turn s moment (event_in x) xs).said ≡ true) ⊎ (length (last_turn s moment (event_in x) xs).sends ≡ 1)
-  on_from n s moment o x [] b sound w begun fit typed few = (may_step s moment (event_in x) sound typed.0).acts.goes_on (prompts_so n s o x b w)
-  on_from n s moment o x (y ∷ ys) b sound w begun fit typed few =
-      let f = first_fits x (y ∷ ys) fit in
-      let g = first_few n x (y ∷ ys) few in
-      let v = waits_for n s o (turn_of s moment (event_in x)) (call_in y) b (steps n s moment o x b w f.0 g.0) begun.1 in
-      on_from n (stands_then s (turn_of s moment (event_in x))) moment o y ys v.0 (sound_then s moment (event_in x) sound typed.0) v.1 begun.2 f.1 typed.1 g.1
+-- after a reply
+on_from : (n : ℕ) (s : Standing) (moment : ℤ) (o : Opening) (x : Exchanged) (xs : List Exchanged) (b : ℕ) → IsSoundAt s → IsWaiting n s o (call_in x) b → IsBegun s moment (event_in x) xs → AllFit (x ∷ xs) → AllTyped (x ∷ xs)
+    → most_found (x ∷ xs) ≤ n → (says_something (last_turn s moment (event_in x) xs).said ≡ true) ⊎ (length (last_turn s moment (event_in x) xs).sends ≡ 1)
+on_from n s moment o x [] b sound w begun fit typed few = (may_step s moment (event_in x) sound typed.0).acts.goes_on (prompts_so n s o x b w)
+on_from n s moment o x (y ∷ ys) b sound w begun fit typed few =
+    let f = first_fits x (y ∷ ys) fit in
+    let g = first_few n x (y ∷ ys) few in
+    let v = waits_for n s o (turn_of s moment (event_in x)) (call_in y) b (steps n s moment o x b w f.0 g.0) begun.1 in
+    on_from n (stands_then s (turn_of s moment (event_in x))) moment o y ys v.0 (sound_then s moment (event_in x) sound typed.0) v.1 begun.2 f.1 typed.1 g.1
 
-  pub exchanges_go_on_by : ExchangesGoOn
-  exchanges_go_on_by s moment event [] operators sound typed begun fit all = (may_step s moment event sound typed).acts.goes_on (operators_prompt event s.book operators)
-  exchanges_go_on_by s moment event (x ∷ xs) operators sound typed begun fit all = go (first_step s (clamped moment) event operators sound)
-    where
-      go : FirstStep s (clamped moment) event (turn_of s moment event) → (says_something (last_turn s moment event (x ∷ xs)).said ≡ true) ⊎ (length (last_turn s moment event (x ∷ xs)).sends ≡ 1)
-      go (inl (inl (r, e, q))) = refuses_none s r (turn_of s moment event) q begun.0
-      go (inr (e, f, a, q, n)) = steady_none f (turn_of s moment event).said q begun.0
-      go (inl (inr (e, o, p, j))) =
-          let found = found_before s.values (open_job_of o.ask.flight s.book) in
-          let n = max found (most_found (x ∷ xs)) in
-          let m = most found (most_found (x ∷ xs)) in
-          let w = waits_for n s o (turn_of s moment event) (call_in x) (5 + cost (rounds_of o.ask.wish) n) (j.within n m.0) begun.1 in
-          on_from n (stands_then s (turn_of s moment event)) moment o x xs w.0 (sound_then s moment event sound typed) w.1 begun.2 fit all m.1
+pub exchanges_go_on_by : ExchangesGoOn
+exchanges_go_on_by s moment event [] operators sound typed begun fit all = (may_step s moment event sound typed).acts.goes_on (operators_prompt event s.book operators)
+exchanges_go_on_by s moment event (x ∷ xs) operators sound typed begun fit all = go (first_step s (clamped moment) event operators sound)
+  where
+    go : FirstStep s (clamped moment) event (turn_of s moment event) → (says_something (last_turn s moment event (x ∷ xs)).said ≡ true) ⊎ (length (last_turn s moment event (x ∷ xs)).sends ≡ 1)
+    go (inl (inl (r, e, q))) = refuses_none s r (turn_of s moment event) q begun.0
+    go (inr (e, f, a, q, n)) = steady_none f (turn_of s moment event).said q begun.0
+    go (inl (inr (e, o, p, j))) =
+        let found = found_before s.values (open_job_of o.ask.flight s.book) in
+        let n = max found (most_found (x ∷ xs)) in
+        let m = most found (most_found (x ∷ xs)) in
+        let w = waits_for n s o (turn_of s moment event) (call_in x) (5 + cost (rounds_of o.ask.wish) n) (j.within n m.0) begun.1 in
+        on_from n (stands_then s (turn_of s moment event)) moment o x xs w.0 (sound_then s moment event sound typed) w.1 begun.2 fit all m.1

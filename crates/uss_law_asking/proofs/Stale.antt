@@ -37,10 +37,11 @@ use Rattle.uss_law_supplier.specs.declared.duties.Awaited.{Awaited}
 use Rattle.uss_law_supplier.specs.declared.duties.Awaited.TheVariants as Waits
 use Rattle.uss_law_supplier.specs.Calls.{kind_of_ask}
 use Rattle.uss_law_supplier.specs.Turns.{Standing, Turn}
-use Rattle.uss_law_supplier.specs.Jobs.{keeps_key, rounds_of, round_by_dss, with_values}
+use Rattle.uss_law_book.specs.Readings.{rounds_of}
+use Rattle.uss_law_supplier.specs.Jobs.{keeps_key, round_by_dss, with_values}
 use Rattle.uss_law_supplier.specs.Typed.{IsEvent}
 use Rattle.uss_law_supplier.specs.Fitting.{IsPhase}
-use Rattle.uss_law_supplier.specs.Laws.{LegalBooksKeepRoom, IsSound}
+use Rattle.uss_law_supplier.specs.Laws.{IsSound}
 use Rattle.uss_law_book.proofs.Others.{decisions_append}
 use Rattle.uss_law_asking.specs.Exchange.{Exchanged, call_in, event_in, turn_of, stands_then, stands_after, IsBegun, last_turn, AllFit, AllTyped, most_found, found_before}
 use Rattle.uss_law_asking.specs.Exchange.Exchanged.{OfDss, OfPeer}
@@ -260,59 +261,58 @@ decided_then n s moment o z b before replies sound w fit other old = at (turn_of
 not_nothing : (said : Said) → said ≡ Says.Nothing → IsNotRefused said
 not_nothing said e = λ k q. (let w : Says.Nothing ≡ Says.Answer (Answers.DssRefused k) = sym e ∙ q in cc (w))
 
-module _ (room : LegalBooksKeepRoom) where
-  -- to the end of an exchange, where the supplier is sound too
-  decided_end : (n : ℕ) (s : Standing) (moment : ℤ) (o : Opening) (x : Exchanged) (xs : List Exchanged) (b : ℕ) (before : Option Closing) (replies : List Exchanged) → IsSoundAt s → IsWaiting n s o (call_in x) b
-      → IsBegun s moment (event_in x) xs → AllFit (x ∷ xs) → AllTyped (x ∷ xs) → most_found (x ∷ xs) ≤ n → IsNotRefused (last_turn s moment (event_in x) xs).said → IsDecided o.job before replies s.book
-      → IsDecided o.job before (replies ++ x ∷ xs) (stands_after s moment (event_in x) xs).book × IsSoundAt (stands_after s moment (event_in x) xs)
-  decided_end n s moment o x [] b before replies sound w begun fit typed few other old =
-      (decided_then n s moment o x b before replies sound w fit other old, sound_then room s moment (event_in x) sound typed.0)
-  decided_end n s moment o x (y ∷ ys) b before replies sound w begun fit typed few other old =
-      let f = first_fits x (y ∷ ys) fit in
-      let g = first_few n x (y ∷ ys) few in
-      let t = turn_of s moment (event_in x) in
-      let v = waits_for n s o t (call_in y) b (steps n s moment o x b w f.0 g.0) begun.1 in
-      let now = decided_then n s moment o x b before replies sound w f.0 (not_nothing t.said begun.0) old in
-      let rec = decided_end n (stands_then s t) moment o y ys v.0 before (replies ++ x ∷ []) (sound_then room s moment (event_in x) sound typed.0) v.1 begun.2 f.1 typed.1 g.1 other now in
-      (subst (λ (l : List Exchanged). IsDecided o.job before l (stands_after (stands_then s t) moment (event_in y) ys).book) (append_assoc replies (x ∷ []) (y ∷ ys)) rec.0, rec.1)
+-- to the end of an exchange, where the supplier is sound too
+decided_end : (n : ℕ) (s : Standing) (moment : ℤ) (o : Opening) (x : Exchanged) (xs : List Exchanged) (b : ℕ) (before : Option Closing) (replies : List Exchanged) → IsSoundAt s → IsWaiting n s o (call_in x) b
+    → IsBegun s moment (event_in x) xs → AllFit (x ∷ xs) → AllTyped (x ∷ xs) → most_found (x ∷ xs) ≤ n → IsNotRefused (last_turn s moment (event_in x) xs).said → IsDecided o.job before replies s.book
+    → IsDecided o.job before (replies ++ x ∷ xs) (stands_after s moment (event_in x) xs).book × IsSoundAt (stands_after s moment (event_in x) xs)
+decided_end n s moment o x [] b before replies sound w begun fit typed few other old =
+    (decided_then n s moment o x b before replies sound w fit other old, sound_then s moment (event_in x) sound typed.0)
+decided_end n s moment o x (y ∷ ys) b before replies sound w begun fit typed few other old =
+    let f = first_fits x (y ∷ ys) fit in
+    let g = first_few n x (y ∷ ys) few in
+    let t = turn_of s moment (event_in x) in
+    let v = waits_for n s o t (call_in y) b (steps n s moment o x b w f.0 g.0) begun.1 in
+    let now = decided_then n s moment o x b before replies sound w f.0 (not_nothing t.said begun.0) old in
+    let rec = decided_end n (stands_then s t) moment o y ys v.0 before (replies ++ x ∷ []) (sound_then s moment (event_in x) sound typed.0) v.1 begun.2 f.1 typed.1 g.1 other now in
+    (subst (λ (l : List Exchanged). IsDecided o.job before l (stands_after (stands_then s t) moment (event_in y) ys).book) (append_assoc replies (x ∷ []) (y ∷ ys)) rec.0, rec.1)
 
-  -- what the book has then
-  abbrev Then : Standing → ℤ → Event → List Exchanged → Opening → Type 0
-  Then s moment event xs o = IsDecided o.job (decision_of o.job s.book) xs (book_then s moment event xs) × IsLegal (book_then s moment event xs)
+-- what the book has then
+abbrev Then : Standing → ℤ → Event → List Exchanged → Opening → Type 0
+Then s moment event xs o = IsDecided o.job (decision_of o.job s.book) xs (book_then s moment event xs) × IsLegal (book_then s moment event xs)
 
-  -- before any reply
-  at_once : (s : Standing) (moment : ℤ) (event : Event) (o : Opening) → OfJob s event o (turn_of s moment event) → IsDecided o.job (decision_of o.job s.book) [] (stands_then s (turn_of s moment event)).book
-  at_once s moment event o j = plain_then o.job (decision_of o.job s.book) [] s.book (turn_of s moment event).entry j.plain (λ d e. inl e)
+-- before any reply
+at_once : (s : Standing) (moment : ℤ) (event : Event) (o : Opening) → OfJob s event o (turn_of s moment event) → IsDecided o.job (decision_of o.job s.book) [] (stands_then s (turn_of s moment event)).book
+at_once s moment event o j = plain_then o.job (decision_of o.job s.book) [] s.book (turn_of s moment event).entry j.plain (λ d e. inl e)
 
-  then_at : (s : Standing) (moment : ℤ) (event : Event) (xs : List Exchanged) (o : Opening) (missing : List ℕ) → IsCarriedOut s moment event xs → IsEvent event → AllTyped xs → outcome s moment event xs ≡ Says.Answer (Answers.Stale missing)
-      → job_named event (book_then s moment event xs) ≡ Some o → FirstStep s (clamped moment) event (turn_of s moment event) → Then s moment event xs o
-  then_at s moment event [] o missing c typed all h named (inl (inl (r, e, q))) = refused_not r (Answers.Stale missing) (outcome s moment event []) (ap (λ (t : Turn). t.said) q) h
-  then_at s moment event [] o missing c typed all h named (inr (e, f, a, q, n)) = let w : Says.Answer (Answers.Steady f) ≡ Says.Answer (Answers.Stale missing) = sym q ∙ h in cc (w)
-  then_at s moment event [] o missing c typed all h named (inl (inr (e, p, t, j))) =
-      let same : p ≡ o = some_same p o (sym j.named ∙ named) in
-      (subst (λ (x : Opening). IsDecided x.job (decision_of x.job s.book) [] (book_then s moment event [])) same (at_once s moment event p j), (sound_then room s moment event c.sound typed).legal)
-  then_at s moment event (x ∷ xs) o missing c typed all h named (inl (inl (r, e, q))) = refuses_none s r (turn_of s moment event) q c.exchange.0.0
-  then_at s moment event (x ∷ xs) o missing c typed all h named (inr (e, f, a, q, n)) = steady_none f (turn_of s moment event).said q c.exchange.0.0
-  then_at s moment event (x ∷ xs) o missing c typed all h named (inl (inr (e, p, t, j))) =
-      let found = found_before s.values (open_job_of p.ask.flight s.book) in
-      let n = max found (most_found (x ∷ xs)) in
-      let m = most found (most_found (x ∷ xs)) in
-      let w = waits_for n s p (turn_of s moment event) (call_in x) (5 + cost (rounds_of p.ask.wish) n) (j.within n m.0) c.exchange.0.1 in
-      let same : p ≡ o = some_same p o (sym (named_end event event s moment (x ∷ xs) p j.named) ∙ named) in
-      let d = decided_end n (stands_then s (turn_of s moment event)) moment p x xs w.0 (decision_of p.job s.book) [] (sound_then room s moment event c.sound typed) w.1 c.exchange.0.2 c.fit all m.1
-      (λ k q. (let v : Says.Answer (Answers.Stale missing) ≡ Says.Answer (Answers.DssRefused k) = sym h ∙ q in cc (v))) (at_once s moment event p j) in
-      (subst (λ (y : Opening). IsDecided y.job (decision_of y.job s.book) (x ∷ xs) (book_then s moment event (x ∷ xs))) same d.0, d.1.legal)
+then_at : (s : Standing) (moment : ℤ) (event : Event) (xs : List Exchanged) (o : Opening) (missing : List ℕ) → IsCarriedOut s moment event xs → IsEvent event → AllTyped xs → outcome s moment event xs ≡ Says.Answer (Answers.Stale missing)
+    → job_named event (book_then s moment event xs) ≡ Some o → FirstStep s (clamped moment) event (turn_of s moment event) → Then s moment event xs o
+then_at s moment event [] o missing c typed all h named (inl (inl (r, e, q))) = refused_not r (Answers.Stale missing) (outcome s moment event []) (ap (λ (t : Turn). t.said) q) h
+then_at s moment event [] o missing c typed all h named (inr (e, f, a, q, n)) = let w : Says.Answer (Answers.Steady f) ≡ Says.Answer (Answers.Stale missing) = sym q ∙ h in cc (w)
+then_at s moment event [] o missing c typed all h named (inl (inr (e, p, t, j))) =
+    let same : p ≡ o = some_same p o (sym j.named ∙ named) in
+    (subst (λ (x : Opening). IsDecided x.job (decision_of x.job s.book) [] (book_then s moment event [])) same (at_once s moment event p j), (sound_then s moment event c.sound typed).legal)
+then_at s moment event (x ∷ xs) o missing c typed all h named (inl (inl (r, e, q))) = refuses_none s r (turn_of s moment event) q c.exchange.0.0
+then_at s moment event (x ∷ xs) o missing c typed all h named (inr (e, f, a, q, n)) = steady_none f (turn_of s moment event).said q c.exchange.0.0
+then_at s moment event (x ∷ xs) o missing c typed all h named (inl (inr (e, p, t, j))) =
+    let found = found_before s.values (open_job_of p.ask.flight s.book) in
+    let n = max found (most_found (x ∷ xs)) in
+    let m = most found (most_found (x ∷ xs)) in
+    let w = waits_for n s p (turn_of s moment event) (call_in x) (5 + cost (rounds_of p.ask.wish) n) (j.within n m.0) c.exchange.0.1 in
+    let same : p ≡ o = some_same p o (sym (named_end event event s moment (x ∷ xs) p j.named) ∙ named) in
+    let d = decided_end n (stands_then s (turn_of s moment event)) moment p x xs w.0 (decision_of p.job s.book) [] (sound_then s moment event c.sound typed) w.1 c.exchange.0.2 c.fit all m.1
+    (λ k q. (let v : Says.Answer (Answers.Stale missing) ≡ Says.Answer (Answers.DssRefused k) = sym h ∙ q in cc (v))) (at_once s moment event p j) in
+    (subst (λ (y : Opening). IsDecided y.job (decision_of y.job s.book) (x ∷ xs) (book_then s moment event (x ∷ xs))) same d.0, d.1.legal)
 
-  pub stale_names_the_missing_by : StaleNamesTheMissing
-  stale_names_the_missing_by s moment event xs missing c typed all h =
-      let r = ((ends_are_done s moment event xs (Answers.Stale missing) c refl).0 h).1 in
-      let t = then_at s moment event xs r.opening missing c typed all h r.named (first_step s (clamped moment) event c.operators c.sound) in
-      let d = stale_is_decided (book_then s moment event xs) t.1 r.opening.job r.done missing r.ended (stale_end (flight_of s.owner r.opening) r.done.end missing r.is) in
-      record {
-        opening = r.opening;
-        named = r.named;
-        here = λ n. elim (t.0 d.0 d.1) [ inl q ↦ none_some (decision_of r.opening.job s.book) d.0 n q | inr f ↦ f missing d.2 ];
-        earlier = λ b e. (
-            let same : b ≡ d.0 = some_same b d.0 (sym (decision_end r.opening.job event s moment xs b (decision_kept_after r.opening.job s.book (turn_of s moment event).entry b e)) ∙ d.1) in
-            ap (λ (c : Closing). c.end) same ∙ d.2);
-      }
+pub stale_names_the_missing_by : StaleNamesTheMissing
+stale_names_the_missing_by s moment event xs missing c typed all h =
+    let r = ((ends_are_done s moment event xs (Answers.Stale missing) c refl).0 h).1 in
+    let t = then_at s moment event xs r.opening missing c typed all h r.named (first_step s (clamped moment) event c.operators c.sound) in
+    let d = stale_is_decided (book_then s moment event xs) t.1 r.opening.job r.done missing r.ended (stale_end (flight_of s.owner r.opening) r.done.end missing r.is) in
+    record {
+      opening = r.opening;
+      named = r.named;
+      here = λ n. elim (t.0 d.0 d.1) [ inl q ↦ none_some (decision_of r.opening.job s.book) d.0 n q | inr f ↦ f missing d.2 ];
+      earlier = λ b e. (
+          let same : b ≡ d.0 = some_same b d.0 (sym (decision_end r.opening.job event s moment xs b (decision_kept_after r.opening.job s.book (turn_of s moment event).entry b e)) ∙ d.1) in
+          ap (λ (c : Closing). c.end) same ∙ d.2);
+    }

@@ -16,7 +16,7 @@ use Rattle.uss_law_duty.proofs.Books.{ended_is_legal}
 use Rattle.uss_law_supplier.specs.Values.{no_values, progress_of}
 use Rattle.uss_law_supplier.specs.Airspace.{is_own, held_as}
 use Rattle.uss_law_supplier.specs.Worked.{first_put}
-use Rattle.uss_law_supplier.specs.Flown.{flown_ask}
+use Rattle.uss_law_duty.specs.Flown.{flown_ask}
 use Rattle.uss_law_supplier.specs.Laws.{IsSound}
 use Rattle.uss_law_supplier.proofs.Law.{start_fits}
 use Rattle.uss_law_asking.specs.Complete.{IsUndisturbed, IsPairOf, served_of}
