@@ -12,10 +12,10 @@ use Rattle.uss_event.specs.declared.steps.Step.{Step}
 use Rattle.uss_event.specs.declared.steps.Stopped.TheVariants as Turns
 use Rattle.uss_law_dss.specs.Lists.{Has}
 use Rattle.uss_law_world.specs.World.{Saying, World, start}
-use Rattle.uss_law_world.specs.Moves.{Arrival, arrival_of, run}
+use Rattle.uss_law_world.specs.Moves.{Arrival, step_of, arrival_of, run}
 use Rattle.uss_law_world.specs.Free.{AreSuppliers, IsFree}
 use Rattle.uss_law_world.specs.Refused.{step_refusal}
-use Rattle.uss_law_exact.specs.Exact.{Exact, exact_start, choice_for, exact_step, exact_run, moves_of, script_of, AreTyped}
+use Rattle.uss_law_exact.specs.Exact.{Exact, exact_start, choice_for, move_by, exact_step, exact_run, moves_of, script_of, AreTyped}
 use Rattle.uss_law_exact.specs.Drains.{Delivers}
 
 -- it holds of every world that a script of exact suppliers leads to
@@ -41,7 +41,10 @@ ExactWorldsAreRun =
     (owners : List Owner) (steps : List Step) →
     (exact_run (exact_start owners) steps).world ≡ run (start owners) (moves_of (exact_start owners) steps)
 
--- each step of the script has its move
+-- the move of a step is of that step, and so each step of the script has its move
+abbrev pub EachMoveIsOfItsStep : Type 0
+EachMoveIsOfItsStep = (e : Exact) (step : Step) → step_of (move_by e step) ≡ step
+
 abbrev pub MovesAreOfScript : Type 0
 MovesAreOfScript = (e : Exact) (steps : List Step) → script_of (moves_of e steps) ≡ steps
 

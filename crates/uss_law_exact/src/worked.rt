@@ -27,7 +27,7 @@ pub fn watched_and_ended_flights_are_exact()
     ensures ended { IsExact (owner ∷ []) ended }
 {}
 
-/// One supplier's call fails; it stops with one message left and before anything is kept; it stops once its answer is kept.
+/// One supplier's call fails; it stops once its Put has left, and again before anything is kept; it stops once its answer is kept.
 pub fn failed_calls_and_stops_are_exact()
     ensures failed { IsExact (owner ∷ []) failed }
     ensures stopped_twice { IsExact (owner ∷ []) stopped_twice }
