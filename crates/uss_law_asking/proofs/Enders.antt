@@ -49,7 +49,7 @@ use Rattle.uss_law_supplier.specs.Jobs.{is_end, view_of, making, carry_on, going
 use Rattle.uss_law_supplier.specs.Asks.{plan_refusal, begins_flight, answered_again, new_refusal, asked_for, repeated_by, repeated, asked_after, asked_with, asked_anew, refusing}
 use Rattle.uss_law_supplier.specs.Fitting.{IsPhase, IsAwaited, IsFit}
 use Rattle.uss_law_supplier.specs.Laws.{IsSound}
-use Rattle.uss_law_supplier.proofs.Known.{Known, legal_known, ticket_puts}
+use Rattle.uss_law_book.proofs.Known.{Known, legal_known, ticket_puts}
 use Rattle.uss_law_supplier.proofs.Jobs.{closed_has_answer}
 use Rattle.uss_law_supplier.proofs.Waits.{awaiting_own}
 use Rattle.uss_law_supplier.proofs.Onward.{IsOpenJob}
