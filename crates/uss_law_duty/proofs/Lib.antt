@@ -7,3 +7,5 @@ pub mod Tickets
 pub mod Flown
 pub mod Staying
 pub mod Changes
+pub mod Kept
+pub mod Remembered

@@ -1,4 +1,5 @@
 pub mod Heard
+pub mod Kept
 pub mod Answers
 pub mod Sends
 pub mod Entered

@@ -1,12 +1,12 @@
 //! What one step of a supplier may do: what it may enter, send and say. Definitions and laws, and no code that runs.
 //!
-//! `specs/Heard.antt` has what a supplier heard and which pairs it keeps of it, `specs/Answers.antt` the answers that a book keeps,
-//! `specs/Sends.antt`, `specs/Entered.antt` and `specs/Sayings.antt` what may be sent, entered and said, and `specs/Duties.antt` the
-//! whole of a step. `specs/Worked.antt` has a worked job, and `specs/Flown.antt` a flight that is changed. The functions below do
-//! nothing: their contracts carry the laws.
+//! `specs/Heard.antt` has what a supplier heard and which pairs it keeps of it, `specs/Kept.antt` what holds of these,
+//! `specs/Answers.antt` the answers that a book keeps, `specs/Sends.antt`, `specs/Entered.antt` and `specs/Sayings.antt` what may be
+//! sent, entered and said, and `specs/Duties.antt` the whole of a step. `specs/Worked.antt` has a worked job, and `specs/Flown.antt` a
+//! flight that is changed. The functions below do nothing: their contracts carry the laws.
 #![tactic(auto)]
 
-ghost use Rattle.std.specs.Prelude.{◌≡◌, [], ◌∷◌, ◌++◌, ℤ, List, Option, codes, Some, None};
+ghost use Rattle.std.specs.Prelude.{ℕ, ◌<◌, ◌≤◌, ◌≡◌, ◌≢◌, ◌⊎◌, [], ◌∷◌, ◌++◌, ℤ, List, length, Option, codes, Some, None};
 ghost use Rattle.uss_event.specs.declared.events.Answer.TheVariants as Answers;
 ghost use Rattle.uss_event.specs.declared.events.Said.TheVariants as Says;
 ghost use Rattle.uss_event.specs.declared.events.Event.TheVariants as Comes;
@@ -20,8 +20,11 @@ ghost use Rattle.uss_event.specs.declared.entries.Entry.{Entry};
 ghost use Rattle.uss_event.specs.declared.calls.Outgoing.{Outgoing};
 ghost use Rattle.uss_event.specs.declared.events.Said.{Said};
 ghost use Rattle.uss_event.specs.declared.events.Event.{Event};
-ghost use Rattle.uss_law_duty.specs.Heard.{News};
+ghost use Rattle.uss_event.specs.Pairs.{OperationalIntent};
+ghost use Rattle.uss_law_dss.specs.Lists.{Has};
+ghost use Rattle.uss_law_duty.specs.Heard.{News, most_kept, kept_pairs, kept_pair};
 ghost use Rattle.uss_law_duty.specs.Heard.News.{Heard, Forgotten};
+ghost use Rattle.uss_law_duty.specs.Kept.{IsLastHeard, AreCrowding};
 ghost use Rattle.uss_law_duty.specs.Duties.{book_after, MayStep};
 ghost use Rattle.uss_event.specs.declared.entries.Entry.TheVariants as Enters;
 ghost use Rattle.uss_intent.specs.declared.calls.DssRefusal.TheVariants as Denies;
@@ -102,6 +105,29 @@ pub fn a_ticket_may_be_taken_out()
     ensures in_use { MayStep cancelled_book [] now (replied ticket_remove (Replies.Refused Denies.TicketInUse)) None (sends get) Says.Nothing [] }
     ensures takes_out { MayStep (ending_book ++ end_done ∷ []) [] now (Comes.Sweep 0) None (sends ticket_remove) Says.Nothing [] }
     ensures gone { MayStep (ending_book ++ end_done ∷ []) [] now (replied ticket_remove (Replies.TicketRemoved the_ticket)) (Some (Enters.TicketGone 1)) [] Says.Nothing [] }
+{}
+
+/// Each kept pair is the last that was heard of its flight, and no older one since took its place; nothing is kept of a flight that was
+/// forgotten and wasn't heard of since. Of each flight one pair is kept at most, and 4,096 in all.
+pub fn kept_pairs_were_heard()
+    ensures its_flight { (flight : ℕ) (heard : List News) (p : OperationalIntent) → kept_pair flight heard ≡ Some p → p.reference.flight ≡ flight }
+    ensures was_heard { (flight : ℕ) (heard : List News) (p : OperationalIntent) → kept_pair flight heard ≡ Some p → Has heard (Heard p) }
+    ensures last { (flight : ℕ) (heard : List News) (p : OperationalIntent) → kept_pair flight heard ≡ Some p → IsLastHeard heard p }
+    ensures forgotten { (flight : ℕ) (before since : List News) → ((p : OperationalIntent) → Has since (Heard p) → p.reference.flight ≢ flight)
+        → kept_pair flight (before ++ Forgotten flight ∷ since) ≡ None }
+    ensures one_each { (heard : List News) (p : OperationalIntent) → Has (kept_pairs heard) p → kept_pair p.reference.flight heard ≡ Some p }
+    ensures few { (heard : List News) → length (kept_pairs heard) ≤ most_kept }
+{}
+
+/// A pair that is heard is kept, unless a newer one of its flight is. It stays, or a newer one does, until its flight is forgotten or
+/// pairs of 4,096 other flights were heard.
+pub fn what_is_heard_is_kept()
+    ensures taken { (heard : List News) (p : OperationalIntent) → (q : OperationalIntent) × (kept_pair p.reference.flight (heard ++ Heard p ∷ []) ≡ Some q)
+        × ((q ≡ p) ⊎ (p.reference.version < q.reference.version)) }
+    ensures stays { (before since : List News) (p : OperationalIntent) → kept_pair p.reference.flight (before ++ Heard p ∷ []) ≡ Some p
+        → (Has since (Forgotten p.reference.flight) → ⊥)
+        → ((q : OperationalIntent) × (kept_pair p.reference.flight (before ++ Heard p ∷ since) ≡ Some q) × (p.reference.version ≤ q.reference.version))
+        ⊎ AreCrowding since p.reference.flight }
 {}
 
 /// The books of the worked steps are legal, from the owner's entry on: a flight that is planned and then ended, a request that is
