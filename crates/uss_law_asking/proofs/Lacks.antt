@@ -53,8 +53,8 @@ use Rattle.uss_law_supplier.specs.Table.{by_book, next_or_choice, on_found, on_g
 use Rattle.uss_law_supplier.specs.Calls.{call_of, kind_of_ask}
 use Rattle.uss_law_supplier.specs.Turns.{Standing, Turn, said_of, entered, entering}
 use Rattle.uss_law_supplier.specs.Airspace.{next_unheard, is_left, choice_of, pairs_in, key_of}
-use Rattle.uss_law_book.specs.Readings.{rounds_of}
 use Rattle.uss_law_supplier.specs.Jobs.{keeps_key, view_of, heard_of_dss, heard_of_peer, owns_tag, making, asking, attempting, holding_as, deciding, giving_up_after, giving_up, ending, ending_as, closing, looking_at, looking, blocked_by, choosing_by, choosing, call_made, carry_on, resuming_by, resuming, carry_out, carry_out_peer}
+use Rattle.uss_law_book.specs.Readings.{rounds_of}
 use Rattle.uss_law_supplier.proofs.Jobs.{made_silently}
 use Rattle.uss_law_supplier.proofs.Onward.{IsOpenJob}
 use Rattle.uss_law_asking.specs.Exchange.{Exchanged}

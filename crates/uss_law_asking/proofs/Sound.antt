@@ -39,13 +39,13 @@ awaited_so job chore book o e u = rw (e, u) (go chore)
     go true = refl
     go false = refl
 
-prompts_so : (n : ℕ) (s : Standing) (o : Opening) (x : Exchanged) (b : ℕ) → IsWaiting n s o (call_in x) b → is_prompting (event_in x) s.book ≡ true
+pub prompts_so : (n : ℕ) (s : Standing) (o : Opening) (x : Exchanged) (b : ℕ) → IsWaiting n s o (call_in x) b → is_prompting (event_in x) s.book ≡ true
 prompts_so n s o (OfDss call reply) b w =
     ap (λ j. is_awaited j (is_ticket_remove call.ask) s.book) w.its_job ∙ awaited_so o.job (is_ticket_remove call.ask) s.book o w.unfinished.opened w.unfinished.unclosed
 prompts_so n s o (OfPeer call reply) b w =
     ap (λ j. is_awaited j (is_notify call) s.book) w.its_job ∙ awaited_so o.job (is_notify call) s.book o w.unfinished.opened w.unfinished.unclosed
 
-operators_prompt : (event : Event) (book : List Entry) → is_operators event ≡ true → is_prompting event book ≡ true
+pub operators_prompt : (event : Event) (book : List Entry) → is_operators event ≡ true → is_prompting event book ≡ true
 operators_prompt (Comes.Ask ask) book h = refl
 operators_prompt (Comes.Cancel flight number) book h = refl
 operators_prompt (Comes.Position p) book h = refl
@@ -54,7 +54,7 @@ operators_prompt _ book h = cc
 pub sound_then : (s : Standing) (moment : ℤ) (event : Event) → IsSoundAt s → IsEvent event → IsSoundAt (stands_then s (turn_of s moment event))
 sound_then s moment event sound typed = steps_stay_sound s.owner s.book s.values moment event sound typed
 
-may_step : (s : Standing) (moment : ℤ) (event : Event) → IsSoundAt s → IsEvent event
+pub may_step : (s : Standing) (moment : ℤ) (event : Event) → IsSoundAt s → IsEvent event
     → MayStep s.book s.values.heard (clamped moment) event (turn_of s moment event).entry (turn_of s moment event).sends (turn_of s moment event).said (turn_of s moment event).values.heard
 may_step s moment event sound typed = steps_keep_duties s.owner s.book s.values moment event sound typed
 
@@ -68,9 +68,9 @@ on_from n s moment o x (y ∷ ys) b sound w begun fit typed few =
     let v = waits_for n s o (turn_of s moment (event_in x)) (call_in y) b (steps n s moment o x b w f.0 g.0) begun.1 in
     on_from n (stands_then s (turn_of s moment (event_in x))) moment o y ys v.0 (sound_then s moment (event_in x) sound typed.0) v.1 begun.2 f.1 typed.1 g.1
 
-pub exchanges_go_on_by : ExchangesGoOn
-exchanges_go_on_by s moment event [] operators sound typed begun fit all = (may_step s moment event sound typed).acts.goes_on (operators_prompt event s.book operators)
-exchanges_go_on_by s moment event (x ∷ xs) operators sound typed begun fit all = go (first_step s (clamped moment) event operators sound)
+pub exchanges_go_on : ExchangesGoOn
+exchanges_go_on s moment event [] operators sound typed begun fit all = (may_step s moment event sound typed).acts.goes_on (operators_prompt event s.book operators)
+exchanges_go_on s moment event (x ∷ xs) operators sound typed begun fit all = go (first_step s (clamped moment) event operators sound)
   where
     go : FirstStep s (clamped moment) event (turn_of s moment event) → (says_something (last_turn s moment event (x ∷ xs)).said ≡ true) ⊎ (length (last_turn s moment event (x ∷ xs)).sends ≡ 1)
     go (inl (inl (r, e, q))) = refuses_none s r (turn_of s moment event) q begun.0

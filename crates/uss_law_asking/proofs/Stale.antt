@@ -37,8 +37,8 @@ use Rattle.uss_law_supplier.specs.declared.duties.Awaited.{Awaited}
 use Rattle.uss_law_supplier.specs.declared.duties.Awaited.TheVariants as Waits
 use Rattle.uss_law_supplier.specs.Calls.{kind_of_ask}
 use Rattle.uss_law_supplier.specs.Turns.{Standing, Turn}
-use Rattle.uss_law_book.specs.Readings.{rounds_of}
 use Rattle.uss_law_supplier.specs.Jobs.{keeps_key, round_by_dss, with_values}
+use Rattle.uss_law_book.specs.Readings.{rounds_of}
 use Rattle.uss_law_supplier.specs.Typed.{IsEvent}
 use Rattle.uss_law_supplier.specs.Fitting.{IsPhase}
 use Rattle.uss_law_supplier.specs.Laws.{IsSound}
@@ -303,8 +303,8 @@ then_at s moment event (x ∷ xs) o missing c typed all h named (inl (inr (e, p,
     (λ k q. (let v : Says.Answer (Answers.Stale missing) ≡ Says.Answer (Answers.DssRefused k) = sym h ∙ q in cc (v))) (at_once s moment event p j) in
     (subst (λ (y : Opening). IsDecided y.job (decision_of y.job s.book) (x ∷ xs) (book_then s moment event (x ∷ xs))) same d.0, d.1.legal)
 
-pub stale_names_the_missing_by : StaleNamesTheMissing
-stale_names_the_missing_by s moment event xs missing c typed all h =
+pub stale_names_the_missing : StaleNamesTheMissing
+stale_names_the_missing s moment event xs missing c typed all h =
     let r = ((ends_are_done s moment event xs (Answers.Stale missing) c refl).0 h).1 in
     let t = then_at s moment event xs r.opening missing c typed all h r.named (first_step s (clamped moment) event c.operators c.sound) in
     let d = stale_is_decided (book_then s moment event xs) t.1 r.opening.job r.done missing r.ended (stale_end (flight_of s.owner r.opening) r.done.end missing r.is) in

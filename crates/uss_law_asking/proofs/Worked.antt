@@ -8,8 +8,8 @@ use Rattle.uss_event.specs.declared.rules.Verdict.TheVariants.{EqualForbidden}
 use Rattle.uss_law_dss.specs.Service.{empty, ovn_of, lies_in}
 use Rattle.uss_law_duty.specs.Worked.{now, ask, new_book, tried_book, held_book, end_ask, planned, other_reference, flight, inside, under_way}
 use Rattle.uss_law_supplier.specs.Cases.{one_round, last_try_book}
-use Rattle.uss_law_duty.specs.Flown.{flown_ask, flown_ovn, changed, flown_book, first_seen}
 use Rattle.uss_law_supplier.specs.Flown.{strays}
+use Rattle.uss_law_duty.specs.Flown.{flown_ask, flown_ovn, changed, flown_book, first_seen}
 use Rattle.uss_law_supplier.proofs.Computed.{computed}
 use Rattle.uss_law_asking.specs.Worked.{ComesOut, stands_on, having_heard, without_details, in_empty_airspace, other_above, other_there, in_the_way, below_another, against_another, second_ask, both_put, by_the_second, planned_second, tried_first_book, overtaken_with, in_the_next_round, without_a_round, recorded_flight, after_a_lost_reply, being_flown, ending_it, ticketed, cancelling_it, flown_flight, strayed_ovn, straying_off}
 use Rattle.uss_law_duty.specs.Worked.{ticket_put}

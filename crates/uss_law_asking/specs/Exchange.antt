@@ -57,7 +57,7 @@ IsBegun s moment event [] = Unit {0}
 IsBegun s moment event (x ∷ xs) =
     ((turn_of s moment event).said ≡ Says.Nothing) × ((turn_of s moment event).sends ≡ call_in x ∷ []) × IsBegun (stands_then s (turn_of s moment event)) moment (event_in x) xs
 
--- the last step, and what stands before it
+-- the last step
 abbrev pub last_turn : Standing → ℤ → Event → List Exchanged → Turn
 last_turn s moment event [] = turn_of s moment event
 last_turn s moment event (x ∷ xs) = last_turn (stands_then s (turn_of s moment event)) moment (event_in x) xs
@@ -108,6 +108,23 @@ abbrev pub ExchangesGoOn : Type 0
 ExchangesGoOn =
     (s : Standing) (moment : ℤ) (event : Event) (xs : List Exchanged) → is_operators event ≡ true → IsSound s.owner s.book s.values → IsEvent event → IsBegun s moment event xs → AllFit xs → AllTyped xs
     → (says_something (last_turn s moment event xs).said ≡ true) ⊎ (length (last_turn s moment event xs).sends ≡ 1)
+
+-- somebody replies to each call, whatever was called and replied before: so that the reply fits and is of its types
+pub record AlwaysReplies (reply_to : List Exchanged → Outgoing → Exchanged) : Type 0 where
+  pub its_call : (before : List Exchanged) (call : Outgoing) → call_in (reply_to before call) ≡ call
+  pub fits : (before : List Exchanged) (call : Outgoing) → AllFit (reply_to before call ∷ [])
+  pub typed : (before : List Exchanged) (call : Outgoing) → IsEvent (event_in (reply_to before call))
+
+-- the replies are those
+abbrev pub AreRepliesOf : (List Exchanged → Outgoing → Exchanged) → List Exchanged → List Exchanged → Type 0
+AreRepliesOf reply_to before [] = Unit {0}
+AreRepliesOf reply_to before (x ∷ xs) = (x ≡ reply_to before (call_in x)) × AreRepliesOf reply_to (before ++ x ∷ []) xs
+
+-- whoever replies so, the exchange comes to an end
+abbrev pub ExchangesEnd : Type 0
+ExchangesEnd =
+    (s : Standing) (moment : ℤ) (event : Event) (reply_to : List Exchanged → Outgoing → Exchanged) → is_operators event ≡ true → IsSound s.owner s.book s.values → IsEvent event → AlwaysReplies reply_to
+    → (xs : List Exchanged) × IsExchange s moment event xs × AreRepliesOf reply_to [] xs
 
 -- the greatest number of references that a query of these gave
 abbrev pub most_found : List Exchanged → ℕ

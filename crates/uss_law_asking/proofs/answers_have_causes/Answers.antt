@@ -1,5 +1,6 @@
 use Rattle.uss_law_asking.proofs.Caused as Caused
 use Rattle.uss_law_asking.proofs.Final as Final
+use Rattle.uss_law_asking.proofs.Stale as Stale
 use Rattle.uss_law_asking.proofs.answers_have_causes.Goals as goal
 
 pub returns-clause-kept : goal.returns-clause-kept
@@ -7,6 +8,9 @@ returns-clause-kept c = Final.final_answers_are_kept
 
 pub returns-clause-done : goal.returns-clause-done
 returns-clause-done c = Final.ends_are_done
+
+pub returns-clause-stale : goal.returns-clause-stale
+returns-clause-stale c = Stale.stale_names_the_missing
 
 pub returns-clause-crowded : goal.returns-clause-crowded
 returns-clause-crowded c = Caused.crowded_is_found
