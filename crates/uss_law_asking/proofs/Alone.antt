@@ -1,14 +1,10 @@
 -- That for one supplier, first event and list of replies there is at most one exchange.
-use Rattle.std.proofs.Common.{ℤ, ◌≡◌, true, List, [], ◌∷◌, ◌++◌, map, refl, ap, sym, subst, ◌∙◌}
-use Rattle.uss_event.specs.declared.calls.Outgoing.{Outgoing}
+use Rattle.std.proofs.Common.{◌≡◌, true, List, [], ◌∷◌, ◌++◌, map, refl, ap, sym, subst, ◌∙◌}
 use Rattle.uss_event.specs.declared.events.Said.{Said}
 use Rattle.uss_event.specs.declared.events.Said.TheVariants as Says
-use Rattle.uss_event.specs.declared.events.Event.{Event}
 use Rattle.uss_law_duty.specs.Duties.{says_something}
-use Rattle.uss_law_supplier.specs.Turns.{Standing}
 use Rattle.uss_law_asking.specs.Exchange.{Exchanged, call_in, event_in, turn_of, stands_then, IsExchange, Reply, reply_in, ExchangesAreOne}
 use Rattle.uss_law_asking.specs.Exchange.Exchanged.{OfDss, OfPeer}
-use Rattle.uss_law_asking.specs.Exchange.Reply.{ByDss, ByPeer}
 
 -- a call and its reply
 same_exchanged : (x y : Exchanged) → call_in x ≡ call_in y → reply_in x ≡ reply_in y → x ≡ y

@@ -1,32 +1,21 @@
 -- That an ask makes no more calls than its rounds and what is found allow: its first step.
-use Rattle.std.proofs.Common.{ℕ, zero, suc, ℤ, ◌+◌, ◌*◌, ◌≤◌, ◌<◌, ◌==◌, ◌≡◌, inl, inr, Bool, true, false, cond, not, nat_lt, List, [], ◌∷◌, ◌++◌, length, max, refl, ap, sym, subst, ◌∙◌, arith, Option, Some, None, is_some}
+use Rattle.std.proofs.Common.{ℕ, suc, ℤ, ◌+◌, ◌≤◌, ◌<◌, ◌==◌, ◌≡◌, inr, Bool, true, false, cond, nat_lt, List, [], ◌∷◌, ◌++◌, length, refl, ap, sym, subst, ◌∙◌, arith, Option, Some, None, is_some}
 use Rattle.std.specs.List.{find}
-use Rattle.std.specs.Cmp.Lexicographic.{pointwise}
 use Rattle.std.specs.Option.{option_or}
 use Rattle.std.proofs.lemmas.List.Folds.{find-append}
-use Rattle.uss_intent.specs.States.{same_state}
-use Rattle.uss_event.specs.Same.{same_proposal, differing}
-use Rattle.uss_law_duty.specs.Duties.{clamped}
 use Rattle.uss_event.specs.declared.asks.Wish.{Wish}
 use Rattle.uss_event.specs.declared.asks.Wish.TheVariants.{Put, End}
 use Rattle.uss_event.specs.declared.asks.FlightAsk.{FlightAsk}
-use Rattle.uss_event.specs.declared.asks.AskField.{AskField}
-use Rattle.uss_event.specs.declared.asks.AskField.TheVariants as Fields
-use Rattle.uss_event.specs.declared.asks.AskRefusal.{AskRefusal}
-use Rattle.uss_event.specs.declared.asks.AskRefusal.TheVariants as Refuses
 use Rattle.uss_event.specs.declared.entries.Entry.{Entry}
 use Rattle.uss_event.specs.declared.entries.Entry.TheVariants as Enters
 use Rattle.uss_event.specs.declared.calls.Outgoing.{Outgoing}
 use Rattle.uss_event.specs.declared.calls.Outgoing.TheVariants as Goes
-use Rattle.uss_event.specs.declared.events.Event.TheVariants as Comes
-use Rattle.uss_law_dss.proofs.Tests.{equal_number, same_number, left_false, not_both, not_less, less_is, some_same}
+use Rattle.uss_law_dss.proofs.Tests.{equal_number, left_false, not_both, not_less, less_is, some_same}
 use Rattle.uss_law_book.specs.Lists.{Opening, openings}
-use Rattle.uss_law_book.specs.Readings.{is_put, opening_of, open_job_of, last_of, is_closed, is_ticket_open, decision_of, trials_of, rounds_of}
+use Rattle.uss_law_book.specs.Readings.{is_put, opening_of, is_closed, is_ticket_open, decision_of, trials_of, rounds_of}
 use Rattle.uss_law_book.specs.Orderly.{IsOrderly}
 use Rattle.uss_law_book.proofs.Entries.{openings_append, closed_by_either}
 use Rattle.uss_law_book.proofs.Kept.{opening_has}
-use Rattle.uss_law_book.proofs.Held.{opening_is_found, open_job_is_found}
-use Rattle.uss_law_book.proofs.EachOrderly.{legal_is_orderly}
 use Rattle.uss_law_duty.specs.Answers.{job_of_call}
 use Rattle.uss_law_supplier.specs.declared.duties.Awaited.{Awaited}
 use Rattle.uss_law_supplier.specs.declared.duties.Awaited.TheVariants as Waits
@@ -36,17 +25,15 @@ use Rattle.uss_law_supplier.specs.Table.{with_ticket}
 use Rattle.uss_law_supplier.specs.Calls.{kind_of_call}
 use Rattle.uss_law_supplier.specs.Turns.{Standing, Turn, entered, entering, with_entry}
 use Rattle.uss_law_supplier.specs.Jobs.{is_end, keeps_key, view_of, asking, carry_on, going_on, resuming_by, resuming}
-use Rattle.uss_law_supplier.specs.Asks.{plan_refusal, new_refusal, opening_entry, opening_for, new_by, asked_anew, asked_for, repeated_by, repeated, asked_after, asked_with, asked, refusing}
-use Rattle.uss_law_supplier.specs.Laws.{IsSound}
+use Rattle.uss_law_supplier.specs.Asks.{plan_refusal, opening_entry, opening_for}
 use Rattle.uss_law_supplier.specs.Fitting.{IsPhase, IsAwaited, IsFit}
-use Rattle.uss_law_book.proofs.Known.{IsFirm, Known, legal_known, tried_ticketed}
+use Rattle.uss_law_book.proofs.Known.{IsFirm, Known, tried_ticketed}
 use Rattle.uss_law_supplier.proofs.Onward.{IsOpenJob}
-use Rattle.uss_law_supplier.proofs.Asking.{last_is, none_of_new, new_unclosed, new_untried, new_unticketed, new_undecided, opened_leaves_open, same_trials, same_ticket, first_kind, first_duty, are_plans}
+use Rattle.uss_law_supplier.proofs.Asking.{none_of_new, new_unclosed, new_untried, new_unticketed, new_undecided, opened_leaves_open, same_trials, same_ticket, first_kind, first_duty, are_plans}
 use Rattle.uss_law_book.proofs.Still.{decision_still}
-use Rattle.uss_law_asking.specs.Exchange.{Exchanged, turn_of, stands_then, IsBegun, calls_made, AllFit, most_found, found_before, CallsAreBounded}
 use Rattle.uss_law_asking.proofs.Budget.{cost, cost_up, left, Allows, IsWaiting, IsWithin, asks, asks_after}
 use Rattle.uss_law_asking.proofs.Acts.{first_round, attempts, gap}
-use Rattle.uss_law_asking.proofs.Bounded.{left_found, goes_within, ends_within, bounded}
+use Rattle.uss_law_asking.proofs.Bounded.{left_found}
 
 -- a job goes on by its book
 

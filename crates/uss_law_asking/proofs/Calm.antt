@@ -1,7 +1,6 @@
 -- What the premises on a request that nobody disturbs say at once; and that the replies to it fit.
-use Rattle.std.proofs.Common.{ℕ, ℤ, ◌<◌, ◌==◌, ◌≡◌, Bool, true, false, cond, ◌&&◌, List, [], ◌∷◌, refl, ap, sym, subst, ◌∙◌, arith, Option, Some, None, IfSome}
+use Rattle.std.proofs.Common.{ℕ, ℤ, ◌≡◌, Bool, true, false, cond, ◌&&◌, List, [], ◌∷◌, refl, ap, sym, subst, ◌∙◌, arith, Option, Some, None, IfSome}
 use Rattle.std.specs.Option.{option_map}
-use Rattle.std.specs.List.{find}
 use Rattle.uss_intent.specs.Same.{same_text}
 use Rattle.uss_intent.specs.declared.calls.DssReply.{DssReply}
 use Rattle.uss_event.specs.Fits.{peer_fits}
@@ -9,7 +8,6 @@ use Rattle.uss_event.specs.Pairs.{OperationalIntent}
 use Rattle.uss_event.specs.declared.asks.FlightAsk.{FlightAsk}
 use Rattle.uss_event.specs.declared.asks.AskRefusal.{AskRefusal}
 use Rattle.uss_event.specs.declared.asks.AskRefusal.TheVariants as Refuses
-use Rattle.uss_event.specs.declared.entries.Entry.{Entry}
 use Rattle.uss_event.specs.declared.calls.PeerCall.TheVariants as Calls
 use Rattle.uss_event.specs.declared.calls.PeerReply.{PeerReply}
 use Rattle.uss_law_dss.specs.Fits.{fits}
@@ -27,9 +25,8 @@ use Rattle.uss_law_duty.specs.Heard.{is_of}
 use Rattle.uss_law_supplier.specs.Turns.{Standing}
 use Rattle.uss_law_supplier.specs.Asks.{first_some, plan_refusal, new_refusal}
 use Rattle.uss_law_supplier.proofs.Asking.{parts_none}
-use Rattle.uss_law_asking.specs.Exchange.{Exchanged}
 use Rattle.uss_law_asking.specs.Exchange.Exchanged.{OfDss, OfPeer}
-use Rattle.uss_law_asking.specs.Refused.{bad_plan, old_number, is_repeat, other_wish, new_or_none, ask_refusal_after}
+use Rattle.uss_law_asking.specs.Refused.{bad_plan, old_number, is_repeat, other_wish, new_or_none}
 use Rattle.uss_law_asking.specs.Complete.{IsUndisturbed, served_of, served_reply, TheirRepliesFit}
 
 -- the request is a plan, and a new one that isn't refused

@@ -1,48 +1,38 @@
 -- From what each answer of an exchange comes.
-use Rattle.std.proofs.Common.{ℕ, ℤ, ◌+◌, ◌≤◌, ◌<◌, ◌≡◌, ◌⊎◌, inl, inr, Bool, true, false, cond, nat_lt, List, [], ◌∷◌, length, refl, ap, sym, subst, ◌∙◌, arith, Option, Some, None, unwrap_or}
+use Rattle.std.proofs.Common.{ℕ, ℤ, ◌<◌, ◌≡◌, inl, inr, Bool, true, false, cond, nat_lt, List, [], length, refl, ap, sym, subst, ◌∙◌, Option, Some, None, unwrap_or}
 use Rattle.uss_intent.specs.Numbers.{is_one_of}
 use Rattle.uss_intent.specs.Refusals.{refusal_number}
 use Rattle.uss_intent.specs.declared.records.Reference.{Reference}
-use Rattle.uss_intent.specs.declared.calls.DssAsk.{DssAsk}
-use Rattle.uss_intent.specs.declared.calls.DssReply.{DssReply}
 use Rattle.uss_intent.specs.declared.calls.DssReply.TheVariants as Replies
 use Rattle.uss_intent.specs.declared.calls.DssRefusal.{DssRefusal}
 use Rattle.uss_event.specs.declared.asks.AskRefusal.{AskRefusal}
-use Rattle.uss_event.specs.declared.asks.Conform.{Conform}
-use Rattle.uss_event.specs.declared.asks.PositionAsk.{PositionAsk}
-use Rattle.uss_event.specs.declared.asks.Wish.{Wish}
 use Rattle.uss_event.specs.declared.entries.Owner.{Owner}
 use Rattle.uss_event.specs.declared.entries.Entry.{Entry}
 use Rattle.uss_event.specs.declared.entries.Ending.{Ending}
 use Rattle.uss_event.specs.declared.entries.Ending.TheVariants as Ends
 use Rattle.uss_event.specs.declared.calls.DssCall.{DssCall}
-use Rattle.uss_event.specs.declared.calls.PeerCall.{PeerCall}
 use Rattle.uss_event.specs.declared.calls.PeerCall.TheVariants as Calls
-use Rattle.uss_event.specs.declared.calls.PeerReply.{PeerReply}
 use Rattle.uss_event.specs.declared.calls.PeerReply.TheVariants as Peers
 use Rattle.uss_event.specs.declared.events.Answer.{Answer}
 use Rattle.uss_event.specs.declared.events.Answer.TheVariants as Answers
 use Rattle.uss_event.specs.declared.events.Said.{Said}
 use Rattle.uss_event.specs.declared.events.Said.TheVariants as Says
 use Rattle.uss_event.specs.declared.events.Event.{Event}
-use Rattle.uss_event.specs.declared.events.Event.TheVariants as Comes
 use Rattle.uss_law_dss.specs.Lists.{Has}
 use Rattle.uss_law_dss.proofs.Tests.{some_same, less_is, less_test, not_both}
 use Rattle.uss_law_book.specs.Lists.{Opening, Trial, Holding, Closing}
 use Rattle.uss_law_book.specs.Readings.{is_closed, trial_of, holding_of, ending_of}
-use Rattle.uss_law_duty.specs.Duties.{clamped}
 use Rattle.uss_law_duty.specs.Answers.{is_final, flight_of, by_trial, by_end, by_close, kept_answer, job_named}
-use Rattle.uss_law_duty.specs.Sayings.{others, IsKeptAnswer}
+use Rattle.uss_law_duty.specs.Sayings.{others}
 use Rattle.uss_law_duty.specs.Entered.{shown_tag}
-use Rattle.uss_law_supplier.specs.Turns.{Standing, Turn}
+use Rattle.uss_law_supplier.specs.Turns.{Standing}
 use Rattle.uss_law_supplier.specs.Jobs.{keeps_key, owns_tag}
-use Rattle.uss_law_asking.specs.Exchange.{Exchanged, turn_of}
+use Rattle.uss_law_asking.specs.Exchange.{Exchanged}
 use Rattle.uss_law_asking.specs.Exchange.Exchanged.{OfDss, OfPeer}
-use Rattle.uss_law_asking.specs.Refused.{refusal_at}
-use Rattle.uss_law_asking.specs.Causes.{IsCarriedOut, outcome, book_then, is_answer, is_end, IsDoneSo, settled, AsksForNoChange, IsRefusedByDss, IsRefusedByPeer, FindsTooMany, IsAnothers, FinalAnswersAreKept, EndsAreDone, CrowdedIsFound, DssRefusedIsReplied, PeerRefusedIsReplied, UnsettledIsGot, SteadyAsksForNoChange, RefusalsAreByBook, RefusalsComeFirst}
+use Rattle.uss_law_asking.specs.Causes.{IsCarriedOut, outcome, book_then, is_answer, settled, IsRefusedByDss, IsRefusedByPeer, FindsTooMany, IsAnothers, CrowdedIsFound, DssRefusedIsReplied, PeerRefusedIsReplied, UnsettledIsGot}
 use Rattle.uss_law_asking.proofs.Ends.{none_held, none_done}
-use Rattle.uss_law_asking.proofs.Stops.{IsOnce, by_found, by_got, by_refusal, stop_by}
-use Rattle.uss_law_asking.proofs.Outcomes.{Outcome, IsRefused, IsSteady, IsKept, IsStopped, outcome_of}
+use Rattle.uss_law_asking.proofs.Stops.{by_found, by_got, by_refusal, stop_by}
+use Rattle.uss_law_asking.proofs.Outcomes.{Outcome, outcome_of}
 use Rattle.uss_law_asking.proofs.Outcomes.Outcome.{Refused, Steady, Kept, Stopped}
 
 -- what a book keeps is final, and of a closed job

@@ -1,26 +1,22 @@
 -- That an exchange makes no more calls than its rounds and what is found allow.
-use Rattle.std.proofs.Common.{ℕ, zero, suc, ℤ, ◌+◌, ◌*◌, ◌≤◌, ◌≡◌, inl, inr, true, List, [], ◌∷◌, length, max, refl, ap, sym, subst, ◌∙◌, arith, Option, Some, None}
-use Rattle.uss_event.specs.declared.asks.FlightAsk.{FlightAsk}
+use Rattle.std.proofs.Common.{ℕ, zero, suc, ℤ, ◌+◌, ◌*◌, ◌≤◌, ◌≡◌, inl, inr, List, [], ◌∷◌, length, max, refl, ap, sym, subst, ◌∙◌, arith}
 use Rattle.uss_event.specs.declared.asks.AskRefusal.{AskRefusal}
 use Rattle.uss_event.specs.declared.asks.Conform.{Conform}
 use Rattle.uss_event.specs.declared.events.Answer.TheVariants as Answers
 use Rattle.uss_event.specs.declared.events.Said.TheVariants as Says
-use Rattle.uss_event.specs.declared.calls.Outgoing.{Outgoing}
 use Rattle.uss_event.specs.declared.events.Event.{Event}
 use Rattle.uss_event.specs.declared.events.Event.TheVariants as Comes
 use Rattle.uss_law_dss.proofs.Tests.{some_same}
 use Rattle.uss_law_book.specs.Lists.{Opening}
 use Rattle.uss_law_book.specs.Readings.{open_job_of, rounds_of}
 use Rattle.uss_law_duty.specs.Duties.{clamped}
-use Rattle.uss_law_duty.specs.Answers.{job_named}
 use Rattle.uss_law_supplier.specs.Turns.{Standing, Turn}
 use Rattle.uss_law_supplier.specs.Asks.{refusing}
-use Rattle.uss_law_supplier.specs.Laws.{IsSound}
-use Rattle.uss_law_asking.specs.Exchange.{Exchanged, is_operators, call_in, event_in, turn_of, stands_then, stands_after, IsBegun, calls_made, AllFit, most_found, found_before, call_bound, CallsAreBounded, CallsOfJobsAreBounded}
+use Rattle.uss_law_asking.specs.Exchange.{Exchanged, turn_of, stands_then, IsBegun, calls_made, AllFit, most_found, found_before, call_bound, CallsAreBounded, CallsOfJobsAreBounded}
 use Rattle.uss_law_asking.specs.Refused.{ask_refusal}
 use Rattle.uss_law_asking.proofs.Budget.{cost, IsWithin}
 use Rattle.uss_law_asking.proofs.Bounded.{goes_within, ends_within, bounded}
-use Rattle.uss_law_asking.proofs.First.{OfJob, FirstStep, FirstIs, AnyJob, IsFor, named_end, first_step, of_ask}
+use Rattle.uss_law_asking.proofs.First.{OfJob, FirstStep, FirstIs, IsFor, named_end, first_step, of_ask}
 use Rattle.uss_law_asking.proofs.Outcomes.{refuses_none, steady_none, most}
 
 cost_is : (r n : ℕ) → cost r n ≡ r * (2 + n)

@@ -32,8 +32,8 @@ use Rattle.uss_law_supplier.specs.Jobs.{is_end, keeps_key, view_of, round_by_dss
 use Rattle.uss_law_supplier.specs.Asks.{opening_for}
 use Rattle.uss_law_supplier.specs.Laws.{IsSound}
 use Rattle.uss_law_supplier.proofs.Waits.{awaiting_own}
-use Rattle.uss_law_asking.specs.Exchange.{Exchanged, IsExchange, turn_of, last_turn}
-use Rattle.uss_law_asking.specs.Complete.{IsUndisturbed, is_new, its_flight, IsKeyedOutcome, IsPutOutcome, IsOutcome, around, intents_around, AreByService}
+use Rattle.uss_law_asking.specs.Exchange.{turn_of}
+use Rattle.uss_law_asking.specs.Complete.{IsUndisturbed, is_new, its_flight, IsKeyedOutcome, IsPutOutcome, IsOutcome, around, intents_around}
 use Rattle.uss_law_asking.proofs.Walk.{ComesOutAs, acts_so, stops_by}
 use Rattle.uss_law_asking.proofs.Opens.{its_query, asked_values, looks_from, ticketed, found_there, ticketed_orderly, looking_unfinished, looks_so}
 

@@ -1,7 +1,6 @@
 -- That every exchange comes to an end, whoever replies.
-use Rattle.std.proofs.Common.{ℕ, zero, suc, ℤ, ◌+◌, ◌≤◌, ◌<◌, ◌≡◌, ◌⊎◌, inl, inr, Bool, true, false, ◌&&◌, nat_le, List, [], ◌∷◌, ◌++◌, length, max, refl, ap, sym, subst, ◌∙◌, arith, Option, Some, None}
+use Rattle.std.proofs.Common.{ℕ, zero, suc, ℤ, ◌+◌, ◌≤◌, ◌<◌, ◌≡◌, ◌⊎◌, inl, inr, Bool, true, false, nat_le, List, [], ◌∷◌, ◌++◌, length, max, refl, ap, sym, subst, ◌∙◌, arith}
 use Rattle.std.proofs.lemmas.Bool.Decides.{nat_tests}
-use Rattle.uss_intent.specs.declared.records.Reference.{Reference}
 use Rattle.uss_intent.specs.declared.calls.DssAsk.{DssAsk}
 use Rattle.uss_intent.specs.declared.calls.DssAsk.TheVariants as Asks
 use Rattle.uss_intent.specs.declared.calls.DssReply.{DssReply}
@@ -12,7 +11,7 @@ use Rattle.uss_event.specs.declared.calls.Outgoing.TheVariants as Goes
 use Rattle.uss_event.specs.declared.events.Said.{Said}
 use Rattle.uss_event.specs.declared.events.Said.TheVariants as Says
 use Rattle.uss_event.specs.declared.events.Event.{Event}
-use Rattle.uss_law_dss.specs.Fits.{fits, is_list, ascend}
+use Rattle.uss_law_dss.specs.Fits.{fits, ascend}
 use Rattle.uss_law_dss.proofs.Tests.{both, not_both}
 use Rattle.uss_law_book.specs.Lists.{Opening}
 use Rattle.uss_law_book.specs.Readings.{open_job_of}
@@ -21,8 +20,7 @@ use Rattle.uss_law_supplier.specs.Turns.{Standing, Turn}
 use Rattle.uss_law_supplier.specs.Jobs.{found_by}
 use Rattle.uss_law_book.specs.Readings.{rounds_of}
 use Rattle.uss_law_supplier.specs.Typed.{IsReply, IsEvent}
-use Rattle.uss_law_supplier.specs.Laws.{IsSound}
-use Rattle.uss_law_asking.specs.Exchange.{Exchanged, is_operators, call_in, event_in, turn_of, stands_then, IsExchange, AllFit, most_found, found_before, AlwaysReplies, AreRepliesOf, ExchangesEnd}
+use Rattle.uss_law_asking.specs.Exchange.{Exchanged, call_in, event_in, turn_of, stands_then, IsExchange, AllFit, most_found, found_before, AlwaysReplies, AreRepliesOf, ExchangesEnd}
 use Rattle.uss_law_asking.specs.Exchange.Exchanged.{OfDss, OfPeer}
 use Rattle.uss_law_asking.specs.Worked.{finds_nothing, without_anything}
 use Rattle.uss_law_asking.proofs.Budget.{cost, some_allowed, IsWaiting, IsWithin}

@@ -1,5 +1,5 @@
 -- That the end of a flight comes, whether it is asked for the first time or again.
-use Rattle.std.proofs.Common.{ℕ, ℤ, ◌+◌, ◌<◌, ◌≤◌, ◌==◌, ◌≡◌, ◌≢◌, ◌⊎◌, inl, inr, Bool, true, false, cond, nat_lt, is_some, List, [], ◌∷◌, ◌++◌, refl, ap, sym, subst, ◌∙◌, arith, Option, Some, None, IfSome}
+use Rattle.std.proofs.Common.{ℕ, ℤ, ◌<◌, ◌==◌, ◌≡◌, ◌≢◌, inl, inr, Bool, true, false, cond, nat_lt, is_some, List, [], ◌∷◌, ◌++◌, refl, ap, sym, subst, ◌∙◌, arith, Option, Some, None, IfSome}
 use Rattle.std.specs.Option.{option_map}
 use Rattle.std.proofs.lemmas.List.{append-nil, append_assoc}
 use Rattle.uss_intent.specs.Identifiers.{flight_number}
@@ -11,7 +11,6 @@ use Rattle.uss_event.specs.declared.asks.Wish.{Wish}
 use Rattle.uss_event.specs.declared.asks.Wish.TheVariants.{Put, End}
 use Rattle.uss_event.specs.declared.asks.FlightAsk.{FlightAsk}
 use Rattle.uss_event.specs.declared.asks.AskField.{AskField}
-use Rattle.uss_event.specs.declared.asks.AskRefusal.{AskRefusal}
 use Rattle.uss_event.specs.declared.asks.AskRefusal.TheVariants as Refuses
 use Rattle.uss_event.specs.declared.entries.Owner.{Owner}
 use Rattle.uss_event.specs.declared.entries.Entry.{Entry}
@@ -21,7 +20,6 @@ use Rattle.uss_event.specs.declared.entries.Ending.TheVariants as Ends
 use Rattle.uss_event.specs.declared.calls.DssCall.{DssCall}
 use Rattle.uss_event.specs.declared.calls.Outgoing.{Outgoing}
 use Rattle.uss_event.specs.declared.calls.Outgoing.TheVariants as Goes
-use Rattle.uss_event.specs.declared.events.Answer.{Answer}
 use Rattle.uss_event.specs.declared.events.Answer.TheVariants as Answers
 use Rattle.uss_event.specs.declared.events.Said.{Said}
 use Rattle.uss_event.specs.declared.events.Said.TheVariants as Says
@@ -30,7 +28,7 @@ use Rattle.uss_law_dss.specs.Lists.{Has}
 use Rattle.uss_law_dss.specs.Service.{Service}
 use Rattle.uss_law_dss.proofs.Lists.{find_has}
 use Rattle.uss_law_dss.proofs.Tests.{same_number, other_number, not_less, not_both, some_same}
-use Rattle.uss_law_book.specs.Lists.{Opening, Trial, Holding, Closing, openings, holdings, endings}
+use Rattle.uss_law_book.specs.Lists.{Opening, Holding, Closing, openings, holdings, endings}
 use Rattle.uss_law_book.specs.Legal.{IsAfter, IsDue, MayFollow, MayAllFollow, IsLegal, EndsFlight, EndsWish}
 use Rattle.uss_law_book.specs.Orderly.{IsOrderly}
 use Rattle.uss_law_book.specs.Readings.{is_put, opening_of, is_closed, is_ticket_open, last_of, base_of, holding, holding_of, ending_of}
@@ -59,7 +57,7 @@ use Rattle.uss_law_asking.specs.Refused.{bad_plan, old_number, other_wish, new_o
 use Rattle.uss_law_asking.specs.Complete.{its_flight, IsEnding, EndsAreAnswered, EndsComeOut}
 use Rattle.uss_law_asking.proofs.Calm.{only_none}
 use Rattle.uss_law_asking.proofs.Walk.{ComesOutAs, goes_on_by, stops_by}
-use Rattle.uss_law_asking.proofs.Recorded.{IsRecorded, held_recorded}
+use Rattle.uss_law_asking.proofs.Recorded.{held_recorded}
 use Rattle.uss_law_asking.proofs.Ends.{held_there, removes_so, ends_so}
 use Rattle.uss_law_asking.proofs.Stale.{new_ending}
 

@@ -50,8 +50,8 @@ use Rattle.uss_law_book.proofs.Known.{legal_known, same_holding}
 use Rattle.uss_law_supplier.proofs.Waits.{awaiting_own}
 use Rattle.uss_law_supplier.proofs.Onward.{IsOpenJob}
 use Rattle.uss_law_supplier.proofs.Asking.{first_kind, parts_none}
-use Rattle.uss_law_asking.specs.Exchange.{turn_of, stands_then, last_turn}
-use Rattle.uss_law_asking.specs.Complete.{IsUndisturbed, IsOutcome}
+use Rattle.uss_law_asking.specs.Exchange.{turn_of, stands_then}
+use Rattle.uss_law_asking.specs.Complete.{IsOutcome}
 use Rattle.uss_law_asking.proofs.Calm.{accepted_of}
 use Rattle.uss_law_asking.proofs.Asked.{new_unfinished}
 use Rattle.uss_law_asking.proofs.Walk.{ComesOutAs, Settles, goes_on_by, stops_by, acts_so, opens_so}

@@ -1,52 +1,33 @@
 -- That a final answer of an exchange is what the book keeps; and when an exchange refuses, or says that no change is asked for.
-use Rattle.std.proofs.Common.{ℕ, ℤ, ◌+◌, ◌≤◌, ◌<◌, ◌≡◌, ◌⊎◌, inl, inr, Bool, true, false, cond, nat_lt, List, [], ◌∷◌, length, refl, ap, sym, subst, ◌∙◌, arith, Option, Some, None, unwrap_or}
-use Rattle.uss_intent.specs.Numbers.{is_one_of}
-use Rattle.uss_intent.specs.Refusals.{refusal_number}
-use Rattle.uss_intent.specs.declared.records.Reference.{Reference}
-use Rattle.uss_intent.specs.declared.calls.DssAsk.{DssAsk}
-use Rattle.uss_intent.specs.declared.calls.DssReply.{DssReply}
-use Rattle.uss_intent.specs.declared.calls.DssReply.TheVariants as Replies
-use Rattle.uss_intent.specs.declared.calls.DssRefusal.{DssRefusal}
+use Rattle.std.proofs.Common.{ℕ, ℤ, ◌≡◌, inl, inr, true, false, List, [], ◌∷◌, refl, ap, sym, subst, ◌∙◌, Option, Some, None}
 use Rattle.uss_event.specs.Pairs.{OperationalIntent}
 use Rattle.uss_event.specs.declared.asks.AskRefusal.{AskRefusal}
 use Rattle.uss_event.specs.declared.asks.Conform.{Conform}
-use Rattle.uss_event.specs.declared.asks.PositionAsk.{PositionAsk}
 use Rattle.uss_event.specs.declared.asks.Wish.{Wish}
 use Rattle.uss_event.specs.declared.entries.Owner.{Owner}
 use Rattle.uss_event.specs.declared.entries.Entry.{Entry}
-use Rattle.uss_event.specs.declared.entries.Ending.{Ending}
-use Rattle.uss_event.specs.declared.entries.Ending.TheVariants as Ends
-use Rattle.uss_event.specs.declared.calls.DssCall.{DssCall}
-use Rattle.uss_event.specs.declared.calls.PeerCall.{PeerCall}
-use Rattle.uss_event.specs.declared.calls.PeerCall.TheVariants as Calls
-use Rattle.uss_event.specs.declared.calls.PeerReply.{PeerReply}
-use Rattle.uss_event.specs.declared.calls.PeerReply.TheVariants as Peers
 use Rattle.uss_event.specs.declared.events.Answer.{Answer}
 use Rattle.uss_event.specs.declared.events.Answer.TheVariants as Answers
 use Rattle.uss_event.specs.declared.events.Said.{Said}
 use Rattle.uss_event.specs.declared.events.Said.TheVariants as Says
 use Rattle.uss_event.specs.declared.events.Event.{Event}
-use Rattle.uss_event.specs.declared.events.Event.TheVariants as Comes
-use Rattle.uss_law_dss.specs.Lists.{Has}
-use Rattle.uss_law_dss.proofs.Tests.{some_same, less_is, less_test, not_both}
+use Rattle.uss_law_dss.proofs.Tests.{some_same, not_both}
 use Rattle.uss_law_book.specs.Lists.{Opening, Trial, Holding, Closing}
 use Rattle.uss_law_book.specs.Readings.{is_closed, trial_of, holding_of, ending_of}
 use Rattle.uss_law_duty.specs.Duties.{says_something, clamped}
-use Rattle.uss_law_duty.specs.Answers.{is_final, flight_of, by_trial, by_end, by_close, kept_answer, job_named}
-use Rattle.uss_law_duty.specs.Sayings.{others, IsKeptAnswer}
-use Rattle.uss_law_duty.specs.Entered.{shown_tag}
-use Rattle.uss_law_supplier.specs.Turns.{Standing, Turn}
+use Rattle.uss_law_duty.specs.Answers.{is_final, flight_of, by_trial, by_end, by_close, kept_answer}
+use Rattle.uss_law_duty.specs.Sayings.{IsKeptAnswer}
+use Rattle.uss_law_supplier.specs.Turns.{Standing}
 use Rattle.uss_law_supplier.specs.Positions.{acting_as, judged_unless, positioned_for, positioned_with}
 use Rattle.uss_law_supplier.specs.Step.{stepped}
 use Rattle.uss_law_asking.specs.Exchange.{Exchanged, IsExchange, turn_of}
-use Rattle.uss_law_asking.specs.Exchange.Exchanged.{OfDss, OfPeer}
 use Rattle.uss_law_asking.specs.Refused.{refusal_at, finding_at}
-use Rattle.uss_law_asking.specs.Causes.{IsCarriedOut, outcome, book_then, is_answer, is_end, IsDoneSo, settled, AsksForNoChange, IsRefusedByDss, IsRefusedByPeer, FindsTooMany, IsAnothers, FinalAnswersAreKept, EndsAreDone, CrowdedIsFound, DssRefusedIsReplied, PeerRefusedIsReplied, UnsettledIsGot, SteadyAsksForNoChange, RefusalsAreByBook, RefusalsComeFirst}
-use Rattle.uss_law_asking.proofs.Ends.{none_held, none_done}
-use Rattle.uss_law_asking.proofs.Caused.{kept_final, open_keeps_none, Why, why_stops, stop_is, said_is, refused_not, same_job, final_is_answer, none_has, none_some, end_final}
+use Rattle.uss_law_asking.specs.Causes.{outcome, book_then, is_answer, is_end, IsDoneSo, AsksForNoChange, FinalAnswersAreKept, EndsAreDone, SteadyAsksForNoChange, RefusalsAreByBook, RefusalsComeFirst}
+use Rattle.uss_law_asking.proofs.Ends.{none_done}
+use Rattle.uss_law_asking.proofs.Caused.{kept_final, open_keeps_none, why_stops, stop_is, said_is, refused_not, same_job, final_is_answer, none_some}
 use Rattle.uss_law_asking.proofs.Alone.{quiet_or_not}
-use Rattle.uss_law_asking.proofs.Stops.{IsOnce, by_found, by_got, by_refusal, stop_by}
-use Rattle.uss_law_asking.proofs.Outcomes.{Outcome, IsRefused, IsSteady, IsKept, IsStopped, outcome_of}
+use Rattle.uss_law_asking.proofs.Stops.{IsOnce}
+use Rattle.uss_law_asking.proofs.Outcomes.{Outcome, outcome_of}
 use Rattle.uss_law_asking.proofs.Outcomes.Outcome.{Refused, Steady, Kept, Stopped}
 
 -- the final answers

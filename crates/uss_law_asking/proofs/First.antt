@@ -29,32 +29,32 @@ use Rattle.uss_law_dss.proofs.Tests.{equal_number, same_number, other_number, bo
 use Rattle.uss_law_book.specs.Lists.{Opening, Holding, Closing, openings, holdings, endings}
 use Rattle.uss_law_book.specs.Legal.{IsAfter}
 use Rattle.uss_law_book.specs.Orderly.{IsOrderly}
-use Rattle.uss_law_book.specs.Readings.{opening_of, jobs_of, open_job_of, last_of, is_closed, decision_of, holding_of, ending_of, rounds_of}
+use Rattle.uss_law_book.specs.Readings.{jobs_of, open_job_of, last_of, is_closed, decision_of, holding_of, ending_of, rounds_of}
 use Rattle.uss_law_book.specs.Attempts.{held}
 use Rattle.uss_law_book.proofs.Entries.{openings_append}
 use Rattle.uss_law_book.proofs.Held.{opening_is_found, open_job_is_found}
 use Rattle.uss_law_book.proofs.Greatest.{number_is_greater}
 use Rattle.uss_law_book.proofs.EachOrderly.{legal_is_orderly}
 use Rattle.uss_law_duty.specs.Duties.{book_after}
-use Rattle.uss_law_duty.specs.Answers.{kept_answer, job_of_request, job_named}
+use Rattle.uss_law_duty.specs.Answers.{job_of_request, job_named}
 use Rattle.uss_law_supplier.specs.declared.duties.Duty.{Duty}
 use Rattle.uss_law_supplier.specs.declared.duties.Duty.TheVariants as Duties
 use Rattle.uss_law_supplier.specs.Table.{by_book}
 use Rattle.uss_law_supplier.specs.Monitor.{Sighting, later_position}
-use Rattle.uss_law_supplier.specs.Values.{Values, awaited_of, round_of, progress_of, sightings_of, counting}
-use Rattle.uss_law_supplier.specs.Turns.{Standing, Turn, entered, entering, with_entry, said_of}
+use Rattle.uss_law_supplier.specs.Values.{awaited_of, round_of, progress_of, sightings_of}
+use Rattle.uss_law_supplier.specs.Turns.{Standing, Turn, entering, with_entry}
 use Rattle.uss_law_supplier.specs.Jobs.{is_end, view_of, carry_on, going_on, resuming_by, resuming, giving_up}
 use Rattle.uss_law_supplier.specs.Asks.{first_some, plan_refusal, new_refusal, opening_entry, opening_for, refusing, new_by, asked_anew, answered_again, asked_for, repeated_by, repeated, asked_after, asked_with, asked}
 use Rattle.uss_law_supplier.specs.Cancels.{cancelled_open, cancelled_job, cancelled_after, cancelled}
-use Rattle.uss_law_supplier.specs.Positions.{sighting_of, found_with, is_refused, counted_unless, counted_with, acting_as, judged_as, judged, judged_unless, wished, is_numbered, positioned_for, positioned_with, positioned}
+use Rattle.uss_law_supplier.specs.Positions.{sighting_of, is_refused, counted_unless, counted_with, acting_as, judged_unless, is_numbered, positioned_for, positioned_with, positioned}
 use Rattle.uss_law_supplier.specs.Step.{stepped}
 use Rattle.uss_law_supplier.specs.Laws.{IsSound}
-use Rattle.uss_law_book.proofs.Known.{Known, legal_known}
+use Rattle.uss_law_book.proofs.Known.{legal_known}
 use Rattle.uss_law_supplier.proofs.Jobs.{still_named}
 use Rattle.uss_law_supplier.proofs.Onward.{IsOpenJob}
 use Rattle.uss_law_supplier.proofs.Asking.{last_is, request_found, IsAbout, first_kind}
 use Rattle.uss_law_asking.specs.Exchange.{Exchanged, is_operators, event_in, turn_of, stands_then, stands_after, found_before}
-use Rattle.uss_law_asking.specs.Refused.{old_number, other_wish, new_or_none, ask_refusal, cancel_refusal_after, cancel_refusal, change_refusal, finding_at, change_at, position_refusal_beside, position_refusal_with, position_refusal, refusal_at}
+use Rattle.uss_law_asking.specs.Refused.{old_number, other_wish, new_or_none, ask_refusal, cancel_refusal_after, cancel_refusal, change_refusal, finding_at, change_at, position_refusal_beside, position_refusal_with, refusal_at}
 use Rattle.uss_law_asking.specs.Causes.{AsksForNoChange}
 use Rattle.uss_law_asking.proofs.Budget.{cost, IsWaiting, IsWithin}
 use Rattle.uss_law_asking.proofs.Acts.{gives_up}

@@ -1,9 +1,6 @@
 -- Which steps decide that a plan is stale: those on a refusal for want of OVNs, with the flights that this names.
-use Rattle.std.proofs.Common.{ℕ, ◌==◌, ◌≡◌, ◌⊎◌, inl, inr, Bool, true, false, cond, not, ◌||◌, nat_lt, is_some, List, [], ◌∷◌, ◌++◌, slice_get, length, map, refl, ap, sym, subst, ◌∙◌, Option, Some, None, unwrap_or}
-use Rattle.std.specs.List.{find}
-use Rattle.std.proofs.lemmas.List.{append-nil}
+use Rattle.std.proofs.Common.{ℕ, ◌≡◌, ◌⊎◌, inl, inr, Bool, true, false, cond, nat_lt, List, [], ◌∷◌, slice_get, length, map, refl, subst, Option, Some, None}
 use Rattle.uss_vol4.specs.Volume.{Volume4D}
-use Rattle.uss_intent.specs.Numbers.{is_one_of}
 use Rattle.uss_intent.specs.Refusals.{refusal_number}
 use Rattle.uss_intent.specs.declared.records.State.{State}
 use Rattle.uss_intent.specs.declared.records.Reference.{Reference}
@@ -19,7 +16,6 @@ use Rattle.uss_event.specs.Pairs.{OperationalIntent}
 use Rattle.uss_event.specs.declared.rules.Verdict.{Verdict}
 use Rattle.uss_event.specs.declared.asks.Wish.{Wish}
 use Rattle.uss_event.specs.declared.asks.Wish.TheVariants.{Put, End}
-use Rattle.uss_event.specs.declared.entries.Owner.{Owner}
 use Rattle.uss_event.specs.declared.entries.Entry.{Entry}
 use Rattle.uss_event.specs.declared.entries.Entry.TheVariants as Enters
 use Rattle.uss_event.specs.declared.entries.Ending.{Ending}
@@ -30,18 +26,13 @@ use Rattle.uss_event.specs.declared.calls.PeerCall.TheVariants as Calls
 use Rattle.uss_event.specs.declared.calls.PeerReply.{PeerReply}
 use Rattle.uss_event.specs.declared.calls.Outgoing.{Outgoing}
 use Rattle.uss_event.specs.declared.calls.PeerReply.TheVariants as Peers
-use Rattle.uss_event.specs.declared.events.Answer.{Answer}
-use Rattle.uss_event.specs.declared.events.Answer.TheVariants as Answers
-use Rattle.uss_event.specs.declared.events.Said.TheVariants as Says
 use Rattle.uss_plan.specs.declared.choice.Choice.{Choice}
 use Rattle.uss_plan.specs.declared.choice.Choice.TheVariants.{Chosen, Blocked}
 use Rattle.uss_law_dss.specs.Fits.{fits}
 use Rattle.uss_law_dss.proofs.Tests.{some_same}
-use Rattle.uss_law_book.specs.Lists.{Opening, Trial, Holding, Closing, holdings, endings}
-use Rattle.uss_law_book.specs.Readings.{is_closed, trials_of, decision_of, holding_of, ending_of}
-use Rattle.uss_law_book.proofs.Entries.{holdings_append, endings_append}
-use Rattle.uss_law_duty.specs.Duties.{book_after}
-use Rattle.uss_law_duty.specs.Answers.{flight_of, kept_answer}
+use Rattle.uss_law_book.specs.Lists.{Opening, Trial, Closing}
+use Rattle.uss_law_book.specs.Readings.{trials_of, decision_of}
+use Rattle.uss_law_duty.specs.Answers.{flight_of}
 use Rattle.uss_law_duty.specs.Sayings.{others}
 use Rattle.uss_law_duty.specs.Entered.{shown_tag}
 use Rattle.uss_law_supplier.specs.declared.duties.Awaited.{Awaited}
@@ -51,16 +42,11 @@ use Rattle.uss_law_supplier.specs.declared.duties.Duty.TheVariants as Duties
 use Rattle.uss_law_supplier.specs.Values.{awaited_of, round_of}
 use Rattle.uss_law_supplier.specs.Table.{by_book, next_or_choice, on_found, on_got, on_put_refused, on_heard}
 use Rattle.uss_law_supplier.specs.Calls.{call_of, kind_of_ask}
-use Rattle.uss_law_supplier.specs.Turns.{Standing, Turn, said_of, entered, entering}
-use Rattle.uss_law_supplier.specs.Airspace.{next_unheard, is_left, choice_of, pairs_in, key_of}
-use Rattle.uss_law_supplier.specs.Jobs.{keeps_key, view_of, heard_of_dss, heard_of_peer, owns_tag, making, asking, attempting, holding_as, deciding, giving_up_after, giving_up, ending, ending_as, closing, looking_at, looking, blocked_by, choosing_by, choosing, call_made, carry_on, resuming_by, resuming, carry_out, carry_out_peer}
-use Rattle.uss_law_book.specs.Readings.{rounds_of}
-use Rattle.uss_law_supplier.proofs.Jobs.{made_silently}
-use Rattle.uss_law_supplier.proofs.Onward.{IsOpenJob}
-use Rattle.uss_law_asking.specs.Exchange.{Exchanged}
-use Rattle.uss_law_asking.specs.Exchange.Exchanged.{OfDss, OfPeer}
+use Rattle.uss_law_supplier.specs.Turns.{Standing, Turn}
+use Rattle.uss_law_supplier.specs.Airspace.{next_unheard, is_left, choice_of, pairs_in}
+use Rattle.uss_law_supplier.specs.Jobs.{keeps_key, view_of, heard_of_dss, heard_of_peer, owns_tag, making, asking, holding_as, deciding, giving_up_after, giving_up, ending_as, closing, looking_at, looking, blocked_by, choosing_by, choosing, call_made, carry_on, resuming_by, resuming, carry_out, carry_out_peer}
+use Rattle.uss_law_asking.specs.Exchange.Exchanged.{OfDss}
 use Rattle.uss_law_asking.specs.Causes.{missing_in}
-use Rattle.uss_law_asking.proofs.Ends.{none_held, none_done}
 
 -- the entry decides that a plan is stale
 abbrev pub is_stale_decision : Option Entry → Bool

@@ -1,5 +1,5 @@
 -- What an exchange comes to: its first step and then the replies, one after another.
-use Rattle.std.proofs.Common.{ℕ, ℤ, suc, ◌+◌, ◌*◌, ◌≤◌, ◌==◌, ◌≡◌, ◌⊎◌, inl, inr, Bool, true, false, cond, ◌&&◌, ◌||◌, List, [], ◌∷◌, ◌++◌, length, max, refl, ap, sym, subst, ◌∙◌, arith, Option, Some, None, unwrap_or}
+use Rattle.std.proofs.Common.{ℕ, ℤ, ◌+◌, ◌≤◌, ◌==◌, ◌≡◌, ◌⊎◌, inl, inr, Bool, true, false, ◌&&◌, List, [], ◌∷◌, ◌++◌, max, refl, ap, sym, subst, ◌∙◌, arith, Option, Some, None, unwrap_or}
 use Rattle.std.specs.Option.{option_and_then}
 use Rattle.std.specs.List.{list_any}
 use Rattle.std.proofs.lemmas.List.Folds.{list_any-append}
@@ -12,7 +12,6 @@ use Rattle.uss_event.specs.declared.asks.Conform.{Conform}
 use Rattle.uss_event.specs.declared.entries.Owner.{Owner}
 use Rattle.uss_event.specs.declared.entries.Entry.{Entry}
 use Rattle.uss_event.specs.declared.calls.DssCall.{DssCall}
-use Rattle.uss_event.specs.declared.calls.PeerCall.{PeerCall}
 use Rattle.uss_event.specs.declared.calls.PeerCall.TheVariants as Calls
 use Rattle.uss_event.specs.declared.calls.PeerReply.{PeerReply}
 use Rattle.uss_event.specs.declared.calls.Outgoing.{Outgoing}
@@ -25,33 +24,32 @@ use Rattle.uss_event.specs.declared.events.Event.{Event}
 use Rattle.uss_event.specs.declared.events.Event.TheVariants as Comes
 use Rattle.uss_law_dss.specs.Lists.{Has}
 use Rattle.uss_law_dss.specs.Fits.{fits}
-use Rattle.uss_law_dss.proofs.Tests.{and_true, left_true, some_same}
+use Rattle.uss_law_dss.proofs.Tests.{and_true, left_true}
 use Rattle.uss_law_book.specs.Lists.{Opening, Trial, trials}
 use Rattle.uss_law_book.specs.Readings.{opening_of, open_job_of, is_closed, owns, rounds_of}
 use Rattle.uss_law_book.proofs.Entries.{trials_append}
 use Rattle.uss_law_duty.specs.Duties.{book_after, says_something, clamped}
-use Rattle.uss_law_duty.specs.Answers.{kept_answer, job_named, job_of_call}
+use Rattle.uss_law_duty.specs.Answers.{kept_answer, job_named}
 use Rattle.uss_law_duty.specs.Entered.{shown_tag}
 use Rattle.uss_law_supplier.specs.declared.duties.Awaited.{Awaited}
 use Rattle.uss_law_supplier.specs.declared.duties.Awaited.TheVariants as Waits
-use Rattle.uss_law_supplier.specs.Values.{awaited_of, round_of, progress_of}
+use Rattle.uss_law_supplier.specs.Values.{awaited_of, progress_of}
 use Rattle.uss_law_supplier.specs.Table.{on_heard, when_awaited}
 use Rattle.uss_law_supplier.specs.Calls.{kind_of, is_it}
-use Rattle.uss_law_supplier.specs.Turns.{Standing, Turn, dss_call, said_of}
+use Rattle.uss_law_supplier.specs.Turns.{Standing, Turn, said_of}
 use Rattle.uss_law_supplier.specs.Jobs.{view_of, heard_of_dss, heard_of_peer, owns_tag, round_by_dss, round_by_peer, with_values, carry_out, carry_out_peer, open_by_peer}
 use Rattle.uss_law_supplier.specs.Replies.{of_job_by_peer, replied_to_peer, hearing_it}
 use Rattle.uss_law_supplier.specs.Asks.{refusing}
-use Rattle.uss_law_supplier.specs.Laws.{IsSound}
 use Rattle.uss_law_supplier.proofs.Onward.{IsOpenJob}
 use Rattle.uss_law_asking.specs.Exchange.{Exchanged, call_in, event_in, turn_of, stands_then, stands_last, IsBegun, IsExchange, last_turn, AllFit, most_found, found_before}
 use Rattle.uss_law_asking.specs.Exchange.Exchanged.{OfDss, OfPeer}
 use Rattle.uss_law_asking.specs.Refused.{refusal_at}
 use Rattle.uss_law_asking.specs.Causes.{IsCarriedOut, outcome, book_then, AsksForNoChange}
-use Rattle.uss_law_asking.proofs.Budget.{cost, job_in, IsWaiting, IsWithin}
+use Rattle.uss_law_asking.proofs.Budget.{cost, IsWaiting, IsWithin}
 use Rattle.uss_law_asking.proofs.Bounded.{same_details, peer_waits, steps, first_call, first_fits, first_few}
 use Rattle.uss_law_asking.proofs.Walk.{acts_so}
 use Rattle.uss_law_asking.proofs.Stops.{stop_by, by_got, IsOnce, IsSaidBy, IsSaying, says_by_dss, says_by_peer}
-use Rattle.uss_law_asking.proofs.First.{OfJob, FirstStep, first_step, named_then}
+use Rattle.uss_law_asking.proofs.First.{FirstStep, first_step, named_then}
 
 -- the step on a reply
 
@@ -81,9 +79,9 @@ peer_turn n s moment o job flight manager base reply b w fit =
       refl,
       refl,
       ap (λ (x : Option Opening). replied_to_peer h call reply x) opened
-      ∙ ap (λ (x : Bool). of_job_by_peer h o call reply x) w.unfinished.unclosed
-      ∙ ap (λ (x : Bool). open_by_peer h o call reply x) (and_true (peer_fits call reply) (is_it (Goes.Peer call) (awaited_of o.job h.values)) fit it)
-      ∙ ap (λ (x : Option Awaited). carry_out_peer t o call reply (when_awaited (view_of t o) (heard_of_peer t o reply) x)) k,
+          ∙ ap (λ (x : Bool). of_job_by_peer h o call reply x) w.unfinished.unclosed
+          ∙ ap (λ (x : Bool). open_by_peer h o call reply x) (and_true (peer_fits call reply) (is_it (Goes.Peer call) (awaited_of o.job h.values)) fit it)
+          ∙ ap (λ (x : Option Awaited). carry_out_peer t o call reply (when_awaited (view_of t o) (heard_of_peer t o reply) x)) k,
     )
 
 -- says nothing, what the book keeps, or the answer with which the job stops there
@@ -241,7 +239,7 @@ not_silent said e h = let q : says_something Says.Nothing ≡ true = ap says_som
 -- after replies
 
 module _ (s : Standing) (moment : ℤ) (event : Event) (o : Opening) (x : Exchanged) (xs : List Exchanged) (accepted : refusal_at s (clamped moment) event ≡ None)
-  (says : says_something (outcome s moment event (x ∷ xs)) ≡ true) (e : Ends event s.owner o (stands_then s (turn_of s moment event)) moment (event_in x) xs (x ∷ xs)) where
+    (says : says_something (outcome s moment event (x ∷ xs)) ≡ true) (e : Ends event s.owner o (stands_then s (turn_of s moment event)) moment (event_in x) xs (x ∷ xs)) where
   abbrev before : List Entry
   before = (stands_last (stands_then s (turn_of s moment event)) moment (event_in x) xs).book
 

@@ -1,14 +1,12 @@
 -- That a supplier stays sound along an exchange, and that nobody is left without an answer or a next call.
-use Rattle.std.proofs.Common.{ℕ, ℤ, ◌+◌, ◌≤◌, ◌≡◌, ◌⊎◌, inl, inr, Bool, true, false, not, ◌&&◌, List, [], ◌∷◌, length, max, refl, ap, sym, subst, ◌∙◌, arith, Option, Some, None, is_some}
+use Rattle.std.proofs.Common.{ℕ, ℤ, ◌+◌, ◌≤◌, ◌≡◌, ◌⊎◌, inl, inr, Bool, true, false, not, ◌&&◌, List, [], ◌∷◌, length, max, refl, ap, sym, subst, ◌∙◌, Some}
 use Rattle.uss_event.specs.declared.entries.Entry.{Entry}
 use Rattle.uss_event.specs.declared.calls.Outgoing.{Outgoing}
-use Rattle.uss_event.specs.declared.events.Said.TheVariants as Says
 use Rattle.uss_event.specs.declared.events.Event.{Event}
 use Rattle.uss_event.specs.declared.events.Event.TheVariants as Comes
 use Rattle.uss_law_book.specs.Lists.{Opening}
 use Rattle.uss_law_book.specs.Readings.{opening_of, open_job_of, is_closed}
 use Rattle.uss_law_duty.specs.Duties.{says_something, clamped, is_ticket_remove, is_notify, is_awaited, is_prompting, MayStep}
-use Rattle.uss_law_duty.specs.Answers.{job_of_call}
 use Rattle.uss_law_supplier.specs.Turns.{Standing, Turn}
 use Rattle.uss_law_book.specs.Readings.{rounds_of}
 use Rattle.uss_law_supplier.specs.Typed.{IsEvent}
@@ -18,7 +16,7 @@ use Rattle.uss_law_asking.specs.Exchange.{Exchanged, is_operators, call_in, even
 use Rattle.uss_law_asking.specs.Exchange.Exchanged.{OfDss, OfPeer}
 use Rattle.uss_law_asking.proofs.Budget.{cost, IsWaiting, IsWithin}
 use Rattle.uss_law_asking.proofs.Bounded.{steps, first_call, first_fits, first_few}
-use Rattle.uss_law_asking.proofs.First.{OfJob, FirstStep, first_step}
+use Rattle.uss_law_asking.proofs.First.{FirstStep, first_step}
 use Rattle.uss_law_asking.proofs.Outcomes.{refuses_none, steady_none, most}
 
 -- the supplier is sound where it stands

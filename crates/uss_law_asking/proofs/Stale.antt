@@ -1,5 +1,5 @@
 -- That Stale names the flights of the last refusal for want of OVNs.
-use Rattle.std.proofs.Common.{ℕ, ℤ, ◌+◌, ◌≤◌, ◌==◌, ◌≡◌, ◌≢◌, ◌⊎◌, inl, inr, Bool, true, false, cond, List, [], ◌∷◌, ◌++◌, length, max, refl, ap, sym, subst, ◌∙◌, arith, Option, Some, None, is_some}
+use Rattle.std.proofs.Common.{ℕ, ℤ, ◌+◌, ◌≤◌, ◌==◌, ◌≡◌, ◌≢◌, ◌⊎◌, inl, inr, Bool, true, false, cond, List, [], ◌∷◌, ◌++◌, max, refl, ap, sym, subst, ◌∙◌, Option, Some, None}
 use Rattle.std.specs.List.{find, filter_map, cons_option, last_or}
 use Rattle.std.specs.Option.{option_or}
 use Rattle.std.proofs.lemmas.List.{append-nil, append_assoc}
@@ -27,7 +27,7 @@ use Rattle.uss_event.specs.declared.events.Event.TheVariants as Comes
 use Rattle.uss_law_dss.specs.Fits.{fits}
 use Rattle.uss_law_dss.proofs.Tests.{same_number, not_both, some_same}
 use Rattle.uss_law_book.specs.Lists.{Opening, Closing, decisions, endings}
-use Rattle.uss_law_book.specs.Readings.{open_job_of, trials_of, decision_of, ending_of}
+use Rattle.uss_law_book.specs.Readings.{open_job_of, decision_of, ending_of}
 use Rattle.uss_law_book.specs.Legal.{MayFollow, MayAllFollow, IsLegal, IsDue, EndsWish}
 use Rattle.uss_law_book.proofs.Entries.{endings_append}
 use Rattle.uss_law_book.proofs.Finds.{find_kept}
@@ -41,14 +41,13 @@ use Rattle.uss_law_supplier.specs.Jobs.{keeps_key, round_by_dss, with_values}
 use Rattle.uss_law_book.specs.Readings.{rounds_of}
 use Rattle.uss_law_supplier.specs.Typed.{IsEvent}
 use Rattle.uss_law_supplier.specs.Fitting.{IsPhase}
-use Rattle.uss_law_supplier.specs.Laws.{IsSound}
 use Rattle.uss_law_book.proofs.Others.{decisions_append}
 use Rattle.uss_law_asking.specs.Exchange.{Exchanged, call_in, event_in, turn_of, stands_then, stands_after, IsBegun, last_turn, AllFit, AllTyped, most_found, found_before}
 use Rattle.uss_law_asking.specs.Exchange.Exchanged.{OfDss, OfPeer}
-use Rattle.uss_law_asking.specs.Causes.{IsCarriedOut, outcome, book_then, missing_in, missing_last, NamesTheMissing, StaleNamesTheMissing}
+use Rattle.uss_law_asking.specs.Causes.{IsCarriedOut, outcome, book_then, missing_in, missing_last, StaleNamesTheMissing}
 use Rattle.uss_law_asking.proofs.Budget.{cost, IsWaiting}
 use Rattle.uss_law_asking.proofs.Bounded.{steps, first_fits, first_few}
-use Rattle.uss_law_asking.proofs.Lacks.{is_stale_decision, IsPlain, IsNaming, plain_by_peer, names_by_dss}
+use Rattle.uss_law_asking.proofs.Lacks.{is_stale_decision, IsNaming, plain_by_peer, names_by_dss}
 use Rattle.uss_law_asking.proofs.Stops.{by_refusal, stop_by, IsSaying}
 use Rattle.uss_law_asking.proofs.First.{OfJob, FirstStep, named_end, first_step}
 use Rattle.uss_law_asking.proofs.Outcomes.{dss_turn, peer_turn, says_at, refuses_none, steady_none, most}

@@ -1,5 +1,5 @@
 -- What the step on a reply says: nothing, what the book keeps of the job, or the answer with which the job stops at this reply.
-use Rattle.std.proofs.Common.{ℕ, ◌==◌, ◌≡◌, ◌⊎◌, inl, inr, Bool, true, false, cond, not, ◌||◌, nat_lt, is_some, List, [], ◌∷◌, ◌++◌, slice_get, length, map, refl, ap, sym, subst, ◌∙◌, Option, Some, None, unwrap_or}
+use Rattle.std.proofs.Common.{ℕ, ◌==◌, ◌≡◌, ◌⊎◌, inl, inr, Bool, true, false, cond, nat_lt, List, [], ◌∷◌, ◌++◌, slice_get, length, refl, ap, subst, ◌∙◌, Option, Some, None, unwrap_or}
 use Rattle.std.specs.List.{find}
 use Rattle.std.proofs.lemmas.List.{append-nil}
 use Rattle.uss_vol4.specs.Volume.{Volume4D}
@@ -24,7 +24,6 @@ use Rattle.uss_event.specs.declared.entries.Entry.{Entry}
 use Rattle.uss_event.specs.declared.entries.Entry.TheVariants as Enters
 use Rattle.uss_event.specs.declared.entries.Ending.{Ending}
 use Rattle.uss_event.specs.declared.entries.Ending.TheVariants as Ends
-use Rattle.uss_event.specs.declared.calls.DssCall.{DssCall}
 use Rattle.uss_event.specs.declared.calls.PeerCall.{PeerCall}
 use Rattle.uss_event.specs.declared.calls.PeerCall.TheVariants as Calls
 use Rattle.uss_event.specs.declared.calls.PeerReply.{PeerReply}
@@ -37,7 +36,7 @@ use Rattle.uss_plan.specs.declared.choice.Choice.TheVariants.{Chosen, Blocked}
 use Rattle.uss_law_dss.specs.Fits.{fits}
 use Rattle.uss_law_dss.proofs.Tests.{some_same}
 use Rattle.uss_law_book.specs.Lists.{Opening, Trial, Holding, Closing, holdings, endings}
-use Rattle.uss_law_book.specs.Readings.{is_closed, trials_of, decision_of, holding_of, ending_of, rounds_of}
+use Rattle.uss_law_book.specs.Readings.{is_closed, trials_of, decision_of, holding_of, ending_of}
 use Rattle.uss_law_book.proofs.Entries.{holdings_append, endings_append}
 use Rattle.uss_law_duty.specs.Duties.{book_after}
 use Rattle.uss_law_duty.specs.Answers.{flight_of, kept_answer}
@@ -51,7 +50,7 @@ use Rattle.uss_law_supplier.specs.Table.{next_or_choice, on_found, on_got, on_pu
 use Rattle.uss_law_supplier.specs.Calls.{call_of, kind_of_ask}
 use Rattle.uss_law_supplier.specs.Turns.{Standing, Turn, said_of, entered, entering}
 use Rattle.uss_law_supplier.specs.Airspace.{next_unheard, is_left, choice_of, pairs_in, key_of}
-use Rattle.uss_law_supplier.specs.Jobs.{keeps_key, view_of, heard_of_dss, heard_of_peer, owns_tag, asking, pending, attempting, holding_as, deciding, giving_up_after, giving_up, ending, ending_as, closing, looking_at, looking, blocked_by, choosing_by, choosing, call_made, carry_on, carry_out, carry_out_peer}
+use Rattle.uss_law_supplier.specs.Jobs.{keeps_key, view_of, heard_of_dss, heard_of_peer, owns_tag, asking, pending, attempting, holding_as, deciding, giving_up_after, giving_up, ending, ending_as, closing, looking_at, looking, blocked_by, choosing_by, choosing, call_made, carry_out, carry_out_peer}
 use Rattle.uss_law_supplier.proofs.Jobs.{made_silently}
 use Rattle.uss_law_supplier.proofs.Onward.{IsOpenJob}
 use Rattle.uss_law_asking.specs.Exchange.{Exchanged}

@@ -2,7 +2,6 @@
 use Rattle.std.proofs.Common.{◌≡◌, ◌≤◌, ◌<◌, ◌⊎◌, inl, inr, true, false, [], ◌∷◌, refl, ap, sym, subst, arith, Some}
 use Rattle.uss_intent.specs.declared.records.Recorded.{Recorded}
 use Rattle.uss_event.specs.Pairs.{OperationalIntent}
-use Rattle.uss_law_dss.specs.Lists.{Has}
 use Rattle.uss_law_dss.specs.Service.{empty}
 use Rattle.uss_law_dss.specs.Orderly.{IsOrderly}
 use Rattle.uss_law_dss.proofs.Tests.{some_same}
@@ -11,7 +10,7 @@ use Rattle.uss_law_book.proofs.EachOrderly.{legal_beginning}
 use Rattle.uss_law_duty.specs.Heard.{kept_pair}
 use Rattle.uss_law_duty.specs.Heard.News.{Heard}
 use Rattle.uss_law_supplier.specs.Typed.{IsIntent, IsHeard}
-use Rattle.uss_law_duty.specs.Worked.{owner, now, volume, ask, new_book, held_book, held_pair, end_ask, end_opened, end_done, opened, heard_open, pending, recorded, ticket_put, the_reference}
+use Rattle.uss_law_duty.specs.Worked.{owner, now, volume, ask, new_book, held_book, held_pair, end_opened, end_done, ticket_put, the_reference}
 use Rattle.uss_law_duty.proofs.Books.{ended_is_legal}
 use Rattle.uss_law_supplier.specs.Values.{no_values, progress_of}
 use Rattle.uss_law_supplier.specs.Airspace.{is_own, held_as}

@@ -25,7 +25,7 @@ use Rattle.uss_law_supplier.specs.Asks.{plan_refusal, opening_for}
 use Rattle.uss_law_supplier.specs.Laws.{IsSound}
 use Rattle.uss_law_supplier.proofs.Waits.{awaiting_own}
 use Rattle.uss_law_supplier.proofs.Asking.{are_plans}
-use Rattle.uss_law_asking.specs.Exchange.{turn_of, last_turn}
+use Rattle.uss_law_asking.specs.Exchange.{turn_of}
 use Rattle.uss_law_asking.specs.Complete.{IsUndisturbed, is_new, its_flight, IsRecordedBy, IsPutOutcome, IsOutcome, around, intents_around}
 use Rattle.uss_law_asking.proofs.Calm.{plan_of}
 use Rattle.uss_law_asking.proofs.Walk.{ComesOutAs, Settles, acts_so}

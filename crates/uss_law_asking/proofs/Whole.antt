@@ -20,7 +20,6 @@ use Rattle.uss_event.specs.declared.calls.PeerReply.{PeerReply}
 use Rattle.uss_event.specs.declared.calls.PeerReply.TheVariants as Peers
 use Rattle.uss_event.specs.declared.calls.Outgoing.{Outgoing}
 use Rattle.uss_event.specs.declared.calls.Outgoing.TheVariants as Goes
-use Rattle.uss_event.specs.declared.events.Said.{Said}
 use Rattle.uss_event.specs.declared.events.Event.{Event}
 use Rattle.uss_event.specs.declared.events.Event.TheVariants as Comes
 use Rattle.uss_law_dss.specs.Lists.{Has}
@@ -42,7 +41,7 @@ use Rattle.uss_law_supplier.specs.Laws.{IsSound}
 use Rattle.uss_law_supplier.proofs.Waits.{round_own, awaiting_own, awaiting_round}
 use Rattle.uss_law_supplier.proofs.Fits.{heard_in_round}
 use Rattle.uss_law_supplier.proofs.Acting.{next_step}
-use Rattle.uss_law_asking.specs.Exchange.{turn_of, last_turn}
+use Rattle.uss_law_asking.specs.Exchange.{turn_of}
 use Rattle.uss_law_asking.specs.Complete.{IsUndisturbed, is_new, its_flight, IsOfChoice, IsKeyedOutcome, IsPutOutcome, IsOutcome, served_of, served_reply, around, intents_around, RequestsAreAnswered, RequestsComeOut}
 use Rattle.uss_law_asking.proofs.Budget.{left}
 use Rattle.uss_law_asking.proofs.Acts.{one_fewer}

@@ -30,7 +30,7 @@ use Rattle.uss_law_book.specs.Lists.{Opening, Closing}
 use Rattle.uss_law_book.specs.Readings.{open_job_of, decision_of, ending_of}
 use Rattle.uss_law_book.specs.Attempts.{held}
 use Rattle.uss_law_duty.specs.Duties.{clamped}
-use Rattle.uss_law_duty.specs.Answers.{is_final, flight_of, by_end, kept_answer, job_named}
+use Rattle.uss_law_duty.specs.Answers.{is_final, flight_of, by_end, job_named}
 use Rattle.uss_law_duty.specs.Sayings.{others, IsKeptAnswer}
 use Rattle.uss_law_duty.specs.Entered.{shown_tag}
 use Rattle.uss_law_supplier.specs.Monitor.{later_position}

@@ -31,7 +31,6 @@ use Rattle.uss_law_book.specs.Readings.{last_of}
 use Rattle.uss_law_book.specs.Attempts.{held}
 use Rattle.uss_law_book.specs.Legal.{IsAfter}
 use Rattle.uss_law_duty.specs.Heard.{kept_pair, is_of}
-use Rattle.uss_law_duty.specs.Answers.{flight_of}
 use Rattle.uss_law_supplier.specs.Calls.{area_of}
 use Rattle.uss_law_supplier.specs.Turns.{Standing}
 use Rattle.uss_law_supplier.specs.Airspace.{held_as, is_own, choice_of}

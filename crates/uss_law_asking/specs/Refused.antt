@@ -1,6 +1,6 @@
 -- Why a request, a cancel and a position is refused: by the event, the book, what is kept beside the book, and the moment. The refusals
 -- are tried in the order of these lists. This project's own.
-use Rattle.std.specs.Prelude.{ℕ, ℤ, Bool, true, false, ◌==◌, nat_lt, List, [], ◌∷◌, Option, Some, None, option_map, is_none, if◌then◌else◌}
+use Rattle.std.specs.Prelude.{ℕ, ℤ, Bool, false, ◌==◌, nat_lt, List, [], ◌∷◌, Option, Some, None, option_map, if◌then◌else◌}
 use Rattle.uss_event.specs.Same.{differing}
 use Rattle.uss_event.specs.Pairs.{OperationalIntent}
 use Rattle.uss_event.specs.declared.asks.Wish.{Wish}
