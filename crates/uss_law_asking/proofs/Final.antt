@@ -22,7 +22,7 @@ use Rattle.uss_law_supplier.specs.Positions.{acting_as, judged_unless, positione
 use Rattle.uss_law_supplier.specs.Step.{stepped}
 use Rattle.uss_law_asking.specs.Exchange.{Exchanged, IsExchange, turn_of}
 use Rattle.uss_law_asking.specs.Refused.{refusal_at, finding_at}
-use Rattle.uss_law_asking.specs.Causes.{outcome, book_then, is_answer, is_end, IsDoneSo, AsksForNoChange, FinalAnswersAreKept, EndsAreDone, SteadyAsksForNoChange, RefusalsAreByBook, RefusalsComeFirst}
+use Rattle.uss_law_asking.specs.Causes.{outcome, book_then, is_answer, is_ending, IsDoneSo, AsksForNoChange, FinalAnswersAreKept, EndsAreDone, SteadyAsksForNoChange, RefusalsAreByBook, RefusalsComeFirst}
 use Rattle.uss_law_asking.proofs.Ends.{none_done}
 use Rattle.uss_law_asking.proofs.Caused.{kept_final, open_keeps_none, why_stops, stop_is, said_is, refused_not, same_job, final_is_answer, none_some}
 use Rattle.uss_law_asking.proofs.Alone.{quiet_or_not}
@@ -59,7 +59,7 @@ final_answers_are_kept s moment event xs a c f = (λ h. to (outcome_of s moment 
 
 -- the ends of jobs
 
-end_is_final : (a : Answer) → is_end a ≡ true → is_final a ≡ true
+end_is_final : (a : Answer) → is_ending a ≡ true → is_final a ≡ true
 end_is_final (Answers.Conflict flight manager rule) h = refl
 end_is_final (Answers.Stale missing) h = refl
 end_is_final Answers.Cancelled h = refl
@@ -72,23 +72,23 @@ end_is_final (Answers.DssRefused number) h = cc
 end_is_final (Answers.PeerRefused peer status) h = cc
 end_is_final (Answers.Unsettled tag) h = cc
 
-trial_no_end : {P : Type 0} (flight : ℕ) (h : Holding) (x : Option Trial) (a : Answer) → by_trial flight h x ≡ Some a → is_end a ≡ true → P
+trial_no_end : {P : Type 0} (flight : ℕ) (h : Holding) (x : Option Trial) (a : Answer) → by_trial flight h x ≡ Some a → is_ending a ≡ true → P
 trial_no_end flight h None a e i = cc
 trial_no_end {P} flight h (Some t) a e i = go t.previous e
   where
     go : (p : Option (List ℕ)) → by_trial flight h (Some (record t { previous = p })) ≡ Some a → P
-    go None q = not_both (is_end a) i (ap is_end (sym (some_same (Answers.Planned flight h.tag t.alternative h.ovn h.version) a q)))
-    go (Some p) q = not_both (is_end a) i (ap is_end (sym (some_same (Answers.Changed flight h.tag t.alternative h.ovn h.version) a q)))
+    go None q = not_both (is_ending a) i (ap is_ending (sym (some_same (Answers.Planned flight h.tag t.alternative h.ovn h.version) a q)))
+    go (Some p) q = not_both (is_ending a) i (ap is_ending (sym (some_same (Answers.Changed flight h.tag t.alternative h.ovn h.version) a q)))
 
 abbrev Closes : ℕ → Option Closing → Answer → Type 0
 Closes flight x a = (d : Closing) × (x ≡ Some d) × (by_end flight d.end ≡ a)
 
-closes_so : (book : List Entry) (flight : ℕ) (h : Option Holding) (x : Option Closing) (a : Answer) → by_close book flight h x ≡ Some a → is_end a ≡ true → Closes flight x a
+closes_so : (book : List Entry) (flight : ℕ) (h : Option Holding) (x : Option Closing) (a : Answer) → by_close book flight h x ≡ Some a → is_ending a ≡ true → Closes flight x a
 closes_so book flight (Some h) x a e i = trial_no_end flight h (trial_of h.tag book) a e i
 closes_so book flight None (Some d) a e i = (d, refl, some_same (by_end flight d.end) a e)
 closes_so book flight None None a e i = cc
 
-kept_end_is : (owner : Owner) (o : Opening) (book : List Entry) (a : Answer) → kept_answer owner o book ≡ Some a → is_end a ≡ true → Closes (flight_of owner o) (ending_of o.job book) a
+kept_end_is : (owner : Owner) (o : Opening) (book : List Entry) (a : Answer) → kept_answer owner o book ≡ Some a → is_ending a ≡ true → Closes (flight_of owner o) (ending_of o.job book) a
 unfolding kept_answer
 kept_end_is owner o book a e i = closes_so book (flight_of owner o) (holding_of o.job book) (ending_of o.job book) a e i
 

@@ -73,12 +73,12 @@ FinalAnswersAreKept =
     → (outcome s moment event xs ≡ Says.Answer answer) ↔ ((is_answer (outcome s moment event xs) ≡ true) × IsKeptAnswer s.owner (book_then s moment event xs) event answer)
 
 -- Conflict, Stale, Cancelled and Ended: the job recorded nothing
-abbrev pub is_end : Answer → Bool
-is_end (Answers.Conflict flight manager rule) = true
-is_end (Answers.Stale missing) = true
-is_end Answers.Cancelled = true
-is_end (Answers.Ended flight) = true
-is_end _ = false
+abbrev pub is_ending : Answer → Bool
+is_ending (Answers.Conflict flight manager rule) = true
+is_ending (Answers.Stale missing) = true
+is_ending Answers.Cancelled = true
+is_ending (Answers.Ended flight) = true
+is_ending _ = false
 
 -- the book has this as the end of the job of the request
 pub record IsDoneSo (owner : Owner) (book : List Entry) (event : Event) (answer : Answer) : Type 0 where
@@ -91,7 +91,7 @@ pub record IsDoneSo (owner : Owner) (book : List Entry) (event : Event) (answer 
 -- and an exchange comes to one of these exactly where it comes to an answer, and the book then has that as the end of the job
 abbrev pub EndsAreDone : Type 0
 EndsAreDone =
-    (s : Standing) (moment : ℤ) (event : Event) (xs : List Exchanged) (answer : Answer) → IsCarriedOut s moment event xs → is_end answer ≡ true
+    (s : Standing) (moment : ℤ) (event : Event) (xs : List Exchanged) (answer : Answer) → IsCarriedOut s moment event xs → is_ending answer ≡ true
     → (outcome s moment event xs ≡ Says.Answer answer) ↔ ((is_answer (outcome s moment event xs) ≡ true) × IsDoneSo s.owner (book_then s moment event xs) event answer)
 
 -- the other answers: the job stays open
@@ -191,7 +191,7 @@ abbrev pub RefusalsComeFirst : Type 0
 RefusalsComeFirst =
     (s : Standing) (moment : ℤ) (event : Event) (xs : List Exchanged) (refusal : AskRefusal) → IsCarriedOut s moment event xs → outcome s moment event xs ≡ Says.Refused refusal → xs ≡ []
 
--- the flights that the last refusal for want of OVNs names
+-- the flights that a refusal for want of OVNs names, and those that the last one does
 abbrev pub missing_in : Exchanged → Option (List ℕ)
 missing_in (OfDss call (Replies.Refused (Refuses.MissingKey references))) = Some (map (λ (r : Reference). r.flight) references)
 missing_in _ = None

@@ -86,7 +86,7 @@ pub record IsUndisturbed (s : Standing) (moment : ℤ) (ask : FlightAsk) (servic
   pub unused_ticket : is_one_of (ticket_number s.owner.number (length (openings s.book) + 1)) service.retired_tickets ≡ false
   pub alive : is_one_of (its_flight s ask) service.retired_flights ≡ false
   pub own : IfSome (recorded_of (its_flight s ask) service) (λ r. r.reference.manager ≡ s.owner.name)
-  -- the service's state is one that it comes to, and it has room
+  -- the service's state is orderly, as each is that it comes to, and it has room
   pub orderly : IsOrderly service
   pub few_references : length service.references < 4096
   pub few_tickets : length service.tickets < 8192
