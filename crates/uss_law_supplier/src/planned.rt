@@ -97,9 +97,11 @@ pub fn a_job_is_resumed()
     ensures deciding { Does cancelled_book nothing (Comes.Ask ask) None (calls 1 ticket_remove) Nothing (waits 1 ticket_remove) }
     ensures ending { Does ending_book nothing (Comes.Ask end_ask) None (calls 2 remove) Nothing (waits 2 remove) }
     ensures awaiting { Does tried_book asked_other (Comes.Ask ask) None (Goes.Peer details_of_other ∷ []) Nothing asked_other }
-    ensures not_awaited { Does tried_book (waits 1 get) (replies 1 query (Replies.Found [])) None (calls 1 get) Nothing (waits 1 get) }
+    ensures not_awaited { Does cancelled_book (waits 1 ticket_remove) (replies 1 put (refused (Refusals.Full 4096))) None (calls 1 ticket_remove) Nothing (waits 1 ticket_remove) }
+    ensures not_awaited_details { Does ticket_book asked_other (Comes.Peer details_of_third Peers.Gone) None (Goes.Peer details_of_other ∷ []) Nothing asked_other }
     ensures not_awaited_by_book { Does tried_book nothing (replies 1 query (Replies.Found [])) None (calls 1 put) Nothing (waits 1 put) }
-    ensures unfitting { Does tried_book (waits 1 get) (replies 1 get (Replies.Found [])) None (calls 1 get) Nothing (waits 1 get) }
+    ensures unfitting { Does tried_book (waits 1 put) (replies 1 put (Replies.Landed of_another_job [])) None (calls 1 put) Nothing (waits 1 put) }
+    ensures of_another_kind { Does tried_book (waits 1 get) (replies 1 get (Replies.Found [])) None (calls 1 get) Nothing (waits 1 get) }
     ensures unfitting_pair { Does ticket_book asked_other (Comes.Peer details_of_other (Peers.Served of_no_manager)) None (Goes.Peer details_of_other ∷ []) Nothing asked_other }
 {}
 
