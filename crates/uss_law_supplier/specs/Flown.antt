@@ -2,7 +2,8 @@
 use Rattle.std.specs.Prelude.{ℕ, ℤ, pos, true, false, List, [], ◌∷◌, ◌++◌, codes, Some}
 use Rattle.uss_vol4.specs.Volume.{Volume4D}
 use Rattle.uss_intent.specs.Identifiers.{ticket_number}
-use Rattle.uss_intent.specs.declared.records.State.TheVariants.{Contingent}
+use Rattle.uss_intent.specs.declared.records.State.{State}
+use Rattle.uss_intent.specs.declared.records.State.TheVariants.{Accepted, Activated, Nonconforming, Contingent}
 use Rattle.uss_intent.specs.declared.calls.DssAsk.{DssAsk}
 use Rattle.uss_intent.specs.declared.calls.DssAsk.TheVariants as Asks
 use Rattle.uss_event.specs.declared.asks.Wish.TheVariants.{Put}
@@ -10,9 +11,10 @@ use Rattle.uss_event.specs.declared.asks.FlightAsk.{FlightAsk}
 use Rattle.uss_event.specs.declared.asks.PositionAsk.{PositionAsk}
 use Rattle.uss_event.specs.declared.entries.Entry.{Entry}
 use Rattle.uss_event.specs.declared.entries.Entry.TheVariants as Enters
-use Rattle.uss_law_duty.specs.Worked.{volume, proposal, inside}
+use Rattle.uss_event.specs.declared.details.Proposal.{Proposal}
+use Rattle.uss_law_duty.specs.Worked.{now, volume, proposal, new_book, heard_open, pending, recorded, inside}
 use Rattle.uss_law_supplier.specs.Values.{Values, Counted, no_values}
-use Rattle.uss_law_duty.specs.Flown.{around_it, with_around, strayed_tried_book}
+use Rattle.uss_law_duty.specs.Flown.{flown_pending, flown_held, first_seen, around_it, with_around, strayed_pending, strayed_tried_book}
 
 abbrev pub flown_ticket_put : DssAsk
 flown_ticket_put = Asks.TicketPut (ticket_number 1 2) volume (codes "http://uss1.test")
@@ -59,6 +61,32 @@ contingent_book =
     ∷ Enters.TicketOpen 4
     ∷ Enters.Pending 4 4 0 (Some (codes "ovn-0000000000000003")) []
     ∷ Enters.Held 4 4 (codes "ovn-0000000000000004") 4 []
+    ∷ []
+
+-- a request of the flight at priority 5, which is then flown, and held as straying
+abbrev pub at_five : ℕ → State → ℕ → Proposal → FlightAsk
+at_five number to rounds p = record { flight = 1; number = number; wish = Put to 5 rounds (p ∷ []) }
+
+abbrev pub prior_book : List Entry
+prior_book =
+    new_book
+    ++ Enters.Opened 1 now (at_five 1 Accepted 4 proposal)
+    ∷ heard_open
+    ∷ pending
+    ∷ recorded
+    ∷ Enters.Opened 2 now (at_five 2 Activated 4 proposal)
+    ∷ Enters.TicketOpen 2
+    ∷ flown_pending
+    ∷ flown_held
+    ∷ []
+
+abbrev pub prior_strayed_book : List Entry
+prior_strayed_book =
+    prior_book
+    ++ Enters.Opened 3 first_seen (at_five 3 Nonconforming 1 with_around)
+    ∷ Enters.TicketOpen 3
+    ∷ strayed_pending
+    ∷ Enters.Held 3 3 (codes "ovn-0000000000000003") 3 []
     ∷ []
 
 -- it was seen outside, or inside, at a moment

@@ -17,7 +17,7 @@ use Rattle.uss_event.specs.declared.calls.Outgoing.TheVariants as Goes
 use Rattle.uss_law_book.specs.Attempts.{attempted, recorded_as}
 use Rattle.uss_law_duty.specs.Worked.{owner, now, proposal, flight, ovn, tried_book, subscriber}
 use Rattle.uss_law_supplier.specs.Cases.{upper_ask}
-use Rattle.uss_law_duty.specs.Flown.{flown_ask, flown_opened, flown_pending, flown_ovn}
+use Rattle.uss_law_duty.specs.Flown.{flown_opened, flown_pending, flown_ovn, flown_pair}
 
 abbrev pub third_subscriber : Subscriber
 third_subscriber = record { base = codes "http://uss3.test"; ticket = ticket_number 3 1; index = 5 }
@@ -35,11 +35,7 @@ chores_book =
     ∷ Enters.Done 3 Ends.Cancelled
     ∷ []
 
--- what is held of the flight then
-abbrev pub flown_pair : OperationalIntent
-flown_pair = recorded_as (attempted owner (record { job = 2; moment = now; ask = flown_ask }) (record { job = 2; tag = 2; alternative = 0; previous = Some ovn; key = [] }) Activated 0 proposal) flown_ovn 2
-
--- a job tells a subscriber, at a place, of that
+-- a job tells a subscriber, at a place, of what is held of the flight then
 abbrev pub tells_flown : ℕ → ℕ → Subscriber → Outgoing
 tells_flown job place s = Goes.Peer (Calls.Notify job place s.base (record { flight = flight; pair = Some flown_pair; ticket = s.ticket; index = s.index }))
 

@@ -11,9 +11,9 @@ ghost use Rattle.uss_event.specs.declared.events.Event.TheVariants as Comes;
 ghost use Rattle.uss_event.specs.declared.events.Said.TheVariants.{Nothing};
 ghost use Rattle.uss_law_duty.specs.Worked.{ask, volume, proposal, new_book, tried_book, held_book, ticket_put, now};
 ghost use Rattle.uss_law_supplier.specs.Cases.{asks, plans, nowhere, lasting, later_volume, far, largest, too_large, at_end, after_end, early, too_early, before_2000, last_end_of_2000, ended_book, unlawful_book, busy_book, opens_first};
-ghost use Rattle.uss_law_duty.specs.Flown.{flown_book};
+ghost use Rattle.uss_law_duty.specs.Flown.{calls, flown_book};
 ghost use Rattle.uss_law_supplier.specs.Flown.{ticket_round};
-ghost use Rattle.uss_law_supplier.specs.Worked.{Does, DoesAt, Refuses, RefusesAt, nothing, calls, waits};
+ghost use Rattle.uss_law_supplier.specs.Worked.{Does, DoesAt, Refuses, RefusesAt, nothing, waits};
 
 /// Requests are refused for each of their reasons. A moment before the range of instants is taken as the range's beginning.
 pub fn requests_are_refused()

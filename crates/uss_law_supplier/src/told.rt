@@ -10,10 +10,11 @@ ghost use Rattle.uss_event.specs.declared.entries.Entry.TheVariants as Enters;
 ghost use Rattle.uss_event.specs.declared.events.Event.TheVariants as Comes;
 ghost use Rattle.uss_event.specs.declared.events.Said.TheVariants.{Nothing, Pair, Noted, NotManager};
 ghost use Rattle.uss_law_duty.specs.Heard.{News as Told};
+ghost use Rattle.uss_law_duty.specs.Flown.{calls, replies_to};
 ghost use Rattle.uss_law_duty.specs.Worked.{new_book, tried_book, held_book, ending_book, owing_book, flight, ticket_remove, put, the_ticket, planned, notify, notified, subscriber, details_of_other, other_reference, other_pair, held_pair, note_of_other, note_of_end};
 ghost use Rattle.uss_law_supplier.specs.Cases.{refused, of_no_manager};
 ghost use Rattle.uss_law_supplier.specs.Owed.{third_subscriber, chores_book, fewer_chores_book, tells_flown, third_remove, ended_owing, told_of_end};
-ghost use Rattle.uss_law_supplier.specs.Worked.{Does, Answers, nothing, calls, waits, replies, and_heard};
+ghost use Rattle.uss_law_supplier.specs.Worked.{Does, Answers, nothing, waits, and_heard};
 
 /// A sweep makes the calls of chores: what is to be told, by job and place, and then the tickets to be taken out, by job; from so many on.
 /// A note says what is held at that moment, or that the flight has ended.
@@ -32,11 +33,11 @@ pub fn chores_are_done_once()
     ensures told { Does owing_book nothing (Comes.Peer notify Peers.Noted) (Some notified) [] Nothing nothing }
     ensures told_before { Answers (owing_book ++ notified ∷ []) nothing (Comes.Peer notify Peers.Noted) planned }
     ensures not_told { Answers owing_book nothing (Comes.Peer notify (Peers.Status 500)) planned }
-    ensures taken_out { Does chores_book nothing (replies 1 ticket_remove (Replies.TicketRemoved the_ticket)) (Some (Enters.TicketGone 1)) [] Nothing nothing }
-    ensures taken_out_before { Does chores_book nothing (replies 1 ticket_remove (refused Refusals.Retired)) (Some (Enters.TicketGone 1)) [] Nothing nothing }
-    ensures heard_before { Answers fewer_chores_book nothing (replies 1 ticket_remove (Replies.TicketRemoved the_ticket)) planned }
-    ensures still_needed { Answers held_book nothing (replies 1 ticket_remove (Replies.TicketRemoved the_ticket)) planned }
-    ensures still_cited { Answers chores_book nothing (replies 1 ticket_remove (refused Refusals.TicketInUse)) planned }
+    ensures taken_out { Does chores_book nothing (replies_to 1 ticket_remove (Replies.TicketRemoved the_ticket)) (Some (Enters.TicketGone 1)) [] Nothing nothing }
+    ensures taken_out_before { Does chores_book nothing (replies_to 1 ticket_remove (refused Refusals.Retired)) (Some (Enters.TicketGone 1)) [] Nothing nothing }
+    ensures heard_before { Answers fewer_chores_book nothing (replies_to 1 ticket_remove (Replies.TicketRemoved the_ticket)) planned }
+    ensures still_needed { Answers held_book nothing (replies_to 1 ticket_remove (Replies.TicketRemoved the_ticket)) planned }
+    ensures still_cited { Answers chores_book nothing (replies_to 1 ticket_remove (refused Refusals.TicketInUse)) planned }
 {}
 
 /// Another supplier is given what is held of a flight; what it tells of a flight that it manages is heard.

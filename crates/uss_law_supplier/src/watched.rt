@@ -2,16 +2,17 @@
 #![tactic(auto, unfolding(crate::proofs::Computed::computed))]
 
 ghost use Rattle.std.specs.Prelude.{[], ◌∷◌, Some, None};
+ghost use Rattle.uss_intent.specs.declared.records.State.TheVariants.{Activated, Nonconforming, Contingent};
 ghost use Rattle.uss_event.specs.declared.asks.AskRefusal.TheVariants as Why;
 ghost use Rattle.uss_event.specs.declared.asks.Conform.TheVariants as Finds;
 ghost use Rattle.uss_event.specs.declared.entries.Entry.TheVariants as Enters;
 ghost use Rattle.uss_event.specs.declared.events.Answer.TheVariants as Says;
 ghost use Rattle.uss_event.specs.declared.events.Event.TheVariants as Comes;
 ghost use Rattle.uss_event.specs.declared.events.Said.TheVariants.{Nothing, Answer};
-ghost use Rattle.uss_law_duty.specs.Worked.{volume, new_book, held_book};
-ghost use Rattle.uss_law_duty.specs.Flown.{flown_book, strayed_book, strayed_pending, strayed_put, first_seen, around_it, straying, returning};
-ghost use Rattle.uss_law_supplier.specs.Flown.{nonconforming_book, contingent_book, a_minute_later, two_minutes_later, just_before, within, strays, losing, losing_inside, ticket_round, seen_outside, seen_inside, seen, and_seen};
-ghost use Rattle.uss_law_supplier.specs.Worked.{DoesAt, RefusesAt, nothing, calls, waits};
+ghost use Rattle.uss_law_duty.specs.Worked.{volume, proposal, new_book, held_book};
+ghost use Rattle.uss_law_duty.specs.Flown.{calls, flown_book, strayed_book, strayed_pending, strayed_put, first_seen, around_it, with_around, straying, returning};
+ghost use Rattle.uss_law_supplier.specs.Flown.{nonconforming_book, contingent_book, at_five, prior_book, prior_strayed_book, a_minute_later, two_minutes_later, just_before, within, strays, losing, losing_inside, ticket_round, seen_outside, seen_inside, seen, and_seen};
+ghost use Rattle.uss_law_supplier.specs.Worked.{DoesAt, RefusesAt, nothing, waits};
 
 /// A flight that is flown is inside its volume; it strays, and goes into Nonconforming; a minute later it is still outside, and goes into
 /// Contingent. Each position is counted.
@@ -39,6 +40,18 @@ pub fn a_flight_comes_back_or_is_lost()
     ensures nothing_left { DoesAt two_minutes_later contingent_book (seen (seen_outside first_seen ∷ seen_outside a_minute_later ∷ [])) (Comes.Position (strays 5)) None []
         (Answer (Says.Steady Finds.Contingent)) (seen (seen_outside first_seen ∷ seen_outside a_minute_later ∷ seen_outside two_minutes_later ∷ [])) }
     ensures not_flown { DoesAt first_seen held_book nothing (Comes.Position (strays 2)) None [] (Answer (Says.Steady Finds.Nonconforming)) (seen (seen_outside first_seen ∷ [])) }
+{}
+
+/// A change of state that a position asks for is at the priority that is held.
+pub fn a_straying_flight_keeps_its_priority()
+    ensures strays { DoesAt first_seen prior_book nothing (Comes.Position (strays 3)) (Some (Enters.Opened 3 first_seen (at_five 3 Nonconforming 1 with_around)))
+        (calls 3 (ticket_round 3 around_it)) Nothing (and_seen (seen_outside first_seen ∷ []) (waits 3 (ticket_round 3 around_it))) }
+    ensures lost { DoesAt a_minute_later prior_book (seen (seen_outside first_seen ∷ [])) (Comes.Position (strays 3)) (Some (Enters.Opened 3 a_minute_later (at_five 3 Contingent 1 with_around)))
+        (calls 3 (ticket_round 3 around_it)) Nothing (and_seen (seen_outside first_seen ∷ seen_outside a_minute_later ∷ []) (waits 3 (ticket_round 3 around_it))) }
+    ensures lost_later { DoesAt a_minute_later prior_strayed_book (seen (seen_outside first_seen ∷ [])) (Comes.Position (strays 4)) (Some (Enters.Opened 4 a_minute_later (at_five 4 Contingent 1 with_around)))
+        (calls 4 (ticket_round 4 around_it)) Nothing (and_seen (seen_outside first_seen ∷ seen_outside a_minute_later ∷ []) (waits 4 (ticket_round 4 around_it))) }
+    ensures back { DoesAt a_minute_later prior_strayed_book (seen (seen_outside first_seen ∷ [])) (Comes.Position (within 4)) (Some (Enters.Opened 4 a_minute_later (at_five 4 Activated 4 proposal)))
+        (calls 4 (ticket_round 4 volume)) Nothing (and_seen (seen_outside first_seen ∷ seen_inside a_minute_later ∷ []) (waits 4 (ticket_round 4 volume))) }
 {}
 
 /// A position isn't counted that is refused, whether for itself or as a request, or that resumes an open job; that it resumes it comes
