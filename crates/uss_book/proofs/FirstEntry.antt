@@ -10,22 +10,16 @@ use Rattle.uss_journal.specs.Journal.{JournalView, WithOrWithout}
 use Rattle.uss_journal.specs.Refusal.{AppendRefused}
 use Rattle.uss_journal.specs.declared.refusal.JournalRefusal.{JournalRefusal}
 use Rattle.uss_journal.specs.declared.refusal.JournalRefusal.TheVariants.{DiskFault, JournalFull, NotAJournal, Spent, Memory}
-use Rattle.uss_law_book.specs.Coding.{HasCoding, journal_length}
+use Rattle.uss_law_book.specs.Coding.{HasCoding}
 use Rattle.uss_law_book.specs.Legal.{MayFollow, IsLegal}
-use Rattle.uss_law_book.specs.Reserve.{reserved, need, ReserveCovers}
+use Rattle.uss_law_book.proofs.Room.{next_follows}
 use Rattle.uss_coding.specs.Coding.{coding_of}
-use Rattle.uss_coding.specs.Laws.{few_in_table}
 use Rattle.uss_book.specs.Book.{StandsForBook, new_book}
 use Rattle.uss_book.specs.Refusal.{IsPassedOn, UnlessFault, passed_on}
-use Rattle.uss_book.proofs.Room.{legal_covers, short_name}
 use Rattle.uss_book.proofs.Lengths.{fits_after}
 
-first_room : (o : Owner) → HasCoding (Enters.Owner o) → ReserveCovers (new_book o)
-unfolding reserved journal_length need
-first_room o h = omega (arith, short_name o.name h.name, h.short_base, few_in_table o.table h.table)
-
 pub first_follows : (o : Owner) → HasCoding (Enters.Owner o) → MayFollow [] (Enters.Owner o)
-first_follows o h = record { first = refl; coding = h; due = tt; room_before = legal_covers [] tt; room_after = first_room o h }
+first_follows o h = next_follows [] (Enters.Owner o) tt (record { first = refl; coding = h; due = tt; spared = tt })
 
 -- it may follow where there are none
 pub follows_none : (o : Owner) (e : Entry) (es : List Entry) → e ≡ Enters.Owner o → HasCoding e → es ≡ [] → MayFollow es e

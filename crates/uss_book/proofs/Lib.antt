@@ -2,8 +2,6 @@ pub mod Entering
 pub mod Lengths
 pub mod Mount
 pub mod Records
-pub mod Room
 pub mod FirstEntry
 pub mod Rereading
 pub mod Mounting
-pub mod Ends

@@ -1,6 +1,5 @@
 pub mod Append
 pub mod Book
-pub mod Ends
 pub mod Judge
 pub mod Refusal
 pub mod Reread

@@ -6,7 +6,6 @@ mod book;
 #[cfg(test)]
 mod fixtures;
 mod judge;
-mod laws;
 mod load;
 mod owner;
 mod readers;
@@ -25,6 +24,5 @@ mod turning;
 mod viewed;
 
 pub use book::Book;
-pub use laws::what_is_open_can_be_ended;
 pub use refusal::{BookFault, BookRefusal};
 pub use viewed::view;

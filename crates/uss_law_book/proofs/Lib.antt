@@ -18,3 +18,4 @@ pub mod Settled
 pub mod Lengths
 pub mod Bytes
 pub mod Room
+pub mod Fits

@@ -1,7 +1,6 @@
 -- Legal books keep their room.
-use Rattle.std.proofs.Common.{ℕ, ℤ, ◌≤◌, ◌+◌, Bool, true, false, cond, not, ◌&&◌, List, [], ◌∷◌, ◌++◌, ◌≡◌, length, filter, ap, arith, Some, is_some}
-use Rattle.std.specs.Prelude.{sum_by}
-use Rattle.std.proofs.lemmas.List.Sums.{sum_by-cons}
+use Rattle.std.proofs.Common.{ℕ, ℤ, ◌≤◌, ◌+◌, Bool, true, false, not, ◌&&◌, List, [], ◌∷◌, ◌++◌, ◌≡◌, length, refl, ap, arith, Some, is_some}
+use Rattle.std.proofs.lemmas.List.Filters.{sum_by-filter_both}
 use Rattle.uss_event.specs.declared.asks.FlightAsk.{FlightAsk}
 use Rattle.uss_event.specs.declared.entries.Owner.{Owner}
 use Rattle.uss_event.specs.declared.entries.Entry.{Entry}
@@ -28,24 +27,9 @@ use Rattle.uss_law_book.proofs.Bytes.{for_ticket, for_decision, bytes_are_few}
 -- the settled entries are among all
 settled_less : (es : List Entry) → journal_length (settled es) ≤ journal_length es
 unfolding journal_length
-settled_less es = let f = fewer es es in omega (arith, f)
-  where
-    at : (b : Bool) (e : Entry) (xs ys : List Entry) → sum_by record_length xs ≤ sum_by record_length ys → sum_by record_length (cond (not b) (e ∷ xs) xs) ≤ sum_by record_length (e ∷ ys)
-    at true e xs ys h = let c = sum_by-cons record_length e ys in more (sum_by record_length xs) (sum_by record_length ys) (sum_by record_length (e ∷ ys)) (record_length e) h c
-      where
-        more : (x y z r : ℕ) → x ≤ y → z ≡ r + y → x ≤ z
-        more x y z r h c = omega arith
-    at false e xs ys h =
-        let c = sum_by-cons record_length e ys in
-        let d = sum_by-cons record_length e xs in
-        both (sum_by record_length xs) (sum_by record_length ys) (sum_by record_length (e ∷ xs)) (sum_by record_length (e ∷ ys)) (record_length e) h c d
-      where
-        both : (x y w z r : ℕ) → x ≤ y → z ≡ r + y → w ≡ r + x → w ≤ z
-        both x y w z r h c d = omega arith
-
-    fewer : (book es : List Entry) → sum_by record_length (filter (λ e. not (is_reserved book e)) es) ≤ sum_by record_length es
-    fewer book [] = omega arith
-    fewer book (e ∷ es) = at (is_reserved book e) e (filter (λ e. not (is_reserved book e)) es) es (fewer book es)
+settled_less es =
+    let split = sum_by-filter_both (is_reserved es) (λ (e : Entry). not (is_reserved es e)) (λ e. refl) record_length es in
+    omega (arith, split)
 
 -- an open job has few bytes
 few_tickets : (b : Bool) → for_ticket b ≤ 14
@@ -56,7 +40,7 @@ few_decisions : (b : Bool) → for_decision b ≤ 66000
 few_decisions true = omega arith
 few_decisions false = omega arith
 
-open_bytes : (es : List Entry) (job : ℕ) (o : Opening) → IsLegal es → opening_of job es ≡ Some o → is_closed job es ≡ false → bytes_of job es ≤ 2242014
+pub open_bytes : (es : List Entry) (job : ℕ) (o : Opening) → IsLegal es → opening_of job es ≡ Some o → is_closed job es ≡ false → bytes_of job es ≤ 2242014
 open_bytes es job o l e u =
     let k = legal_known es l in
     let i = opening_has es job o e in

@@ -6,16 +6,19 @@
 //! what an entry has to keep to follow a legal book. The functions below do nothing: their contracts carry the laws.
 #![tactic(auto)]
 
-ghost use Rattle.std.specs.Prelude.{◌≡◌, ◌↔◌, ◌++◌, ◌∷◌, [], ℕ, List, Some, false};
+ghost use Rattle.std.specs.Prelude.{◌≡◌, ◌≤◌, ◌↔◌, ◌+◌, ◌++◌, ◌∷◌, [], ℕ, ℤ, List, Some, false};
 ghost use Rattle.std.specs.Option.{option_and_then};
+ghost use Rattle.uss_event.specs.declared.asks.FlightAsk.{FlightAsk};
 ghost use Rattle.uss_event.specs.declared.entries.Entry.{Entry};
+ghost use Rattle.uss_event.specs.declared.entries.Entry.TheVariants.{Opened};
 ghost use Rattle.uss_law_dss.specs.Lists.{Has};
 ghost use Rattle.uss_law_book.specs.Lists.{Opening, Trial, Holding, openings, trials};
 ghost use Rattle.uss_law_book.specs.Readings.{opening_of, trial_of, is_closed, open_job_of, holding, base_of};
 ghost use Rattle.uss_law_book.specs.Attempts.{Attempted, attempt_of, held};
-ghost use Rattle.uss_law_book.specs.Reserve.{ReserveCovers};
+ghost use Rattle.uss_law_book.specs.Coding.{record_length, journal_length};
+ghost use Rattle.uss_law_book.specs.Reserve.{journal_limit, need, ReserveCovers};
 ghost use Rattle.uss_law_book.specs.Legal.{IsLegal, MayFollow};
-ghost use Rattle.uss_law_book.specs.Room.{IsNext, LegalBooksKeepRoom};
+ghost use Rattle.uss_law_book.specs.Room.{IsSpared, IsNext, LegalBooksKeepRoom};
 ghost use Rattle.uss_law_book.specs.Orderly.{IsOrderly, IsHeldOf};
 
 /// A book is legal where each of its entries may follow those before it: so every beginning of a legal book is legal, and a legal
@@ -60,11 +63,15 @@ pub fn what_is_held_was_recorded()
     ensures base { (book : List Entry) (flight : ℕ) → IsLegal book → base_of flight book ≡ option_and_then (λ p. p.reference.ovn) (held flight book) }
 {}
 
-/// A legal book keeps its room. Once a job is open, each entry that is due and has its coding leaves the book with room for all that is
-/// open: what the job enters, to its end, has room within the 8 MiB that are kept free for it. So an entry may follow a legal book
-/// exactly where it is in its place, has its coding, is due, and, if it opens a job, leaves room for the job.
+/// A legal book keeps its room, and fits its journal. Once a job is open, each entry that is due and has its coding leaves the book with
+/// room for all that is open: what the job enters, to its end, has room within the 8,388,608 bytes that are kept free for it. So an entry
+/// may follow a legal book exactly where it is in its place, has its coding, is due, and, if it opens a job, leaves room for the job; and
+/// there is that room where the whole of the journal, what is kept free, the record and the job's bytes fit together.
 pub fn legal_books_keep_room()
     ensures covered { (book : List Entry) → IsLegal book → ReserveCovers book }
+    ensures fits { (book : List Entry) → IsLegal book → journal_length book ≤ journal_limit }
     ensures room { LegalBooksKeepRoom }
     ensures exact { (book : List Entry) (e : Entry) → IsLegal book → (MayFollow book e ↔ IsNext book e) }
+    ensures beside_all { (book : List Entry) (job : ℕ) (moment : ℤ) (ask : FlightAsk)
+        → journal_length book + need book + 8388608 + record_length (Opened job moment ask) ≤ journal_limit → IsSpared book (Opened job moment ask) }
 {}
