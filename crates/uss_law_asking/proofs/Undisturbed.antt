@@ -2,6 +2,7 @@
 use Rattle.std.proofs.Common.{◌≡◌, ◌≤◌, ◌<◌, ◌⊎◌, inl, inr, true, false, [], ◌∷◌, refl, ap, sym, subst, arith, Some}
 use Rattle.uss_intent.specs.declared.records.Recorded.{Recorded}
 use Rattle.uss_event.specs.Pairs.{OperationalIntent}
+use Rattle.uss_event.specs.declared.events.Event.TheVariants as Comes
 use Rattle.uss_law_dss.specs.Service.{empty}
 use Rattle.uss_law_dss.specs.Orderly.{IsOrderly}
 use Rattle.uss_law_dss.proofs.Tests.{some_same}
@@ -10,7 +11,7 @@ use Rattle.uss_law_book.proofs.EachOrderly.{legal_beginning}
 use Rattle.uss_law_duty.specs.Heard.{kept_pair}
 use Rattle.uss_law_duty.specs.Heard.News.{Heard}
 use Rattle.uss_law_supplier.specs.Typed.{IsIntent, IsHeard}
-use Rattle.uss_law_duty.specs.Worked.{owner, now, volume, ask, new_book, held_book, held_pair, end_opened, end_done, ticket_put, the_reference}
+use Rattle.uss_law_duty.specs.Worked.{owner, now, volume, ask, new_book, held_book, held_pair, end_ask, end_opened, end_done, ticket_put, the_reference}
 use Rattle.uss_law_duty.proofs.Books.{ended_is_legal}
 use Rattle.uss_law_supplier.specs.Values.{no_values, progress_of}
 use Rattle.uss_law_supplier.specs.Airspace.{is_own, held_as}
@@ -18,9 +19,11 @@ use Rattle.uss_law_supplier.specs.Worked.{first_put}
 use Rattle.uss_law_duty.specs.Flown.{flown_ask}
 use Rattle.uss_law_supplier.specs.Laws.{IsSound}
 use Rattle.uss_law_supplier.proofs.Law.{start_fits}
-use Rattle.uss_law_asking.specs.Complete.{IsUndisturbed, IsPairOf, served_of}
+use Rattle.uss_law_asking.specs.Complete.{IsUndisturbed, IsEnding, IsPairOf, served_of}
 use Rattle.uss_law_asking.specs.Worked.{stands_on, having_heard, in_the_way, other_calls, other_there, second_ask, recorded_flight}
-use Rattle.uss_law_asking.proofs.Worked.{all}
+use Rattle.uss_law_asking.specs.Worked.{in_empty_airspace as planned_so}
+use Rattle.uss_law_asking.specs.Causes.{IsCarriedOut}
+use Rattle.uss_law_asking.proofs.Worked.{all, empty_airspace}
 
 -- nothing is recorded
 
@@ -130,3 +133,13 @@ of_a_recorded_flight =
   where
     the_own : Recorded
     the_own = record { reference = the_reference; extents = volume ∷ [] }
+
+-- its end may be asked for
+pub of_an_end : IsEnding (stands_on held_book) now end_ask recorded_flight
+unfolding all
+of_an_end = record { end = refl; accepted = refl; orderly = own_orderly; recorded = (record { reference = the_reference; extents = volume ∷ [] }, inl refl, refl) }
+
+-- and a worked exchange is one that is carried out
+pub is_carried_out : IsCarriedOut (stands_on new_book) now (Comes.Ask ask) planned_so
+unfolding all
+is_carried_out = record { operators = refl; sound = new_is_sound; fit = (refl, (refl, (refl, tt))); exchange = empty_airspace.exchange }
