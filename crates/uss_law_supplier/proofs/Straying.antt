@@ -277,17 +277,17 @@ stays_with s p moment after cs o e (inr (x, c, m, k)) = λ flight. go flight (p.
         let f = same_number p.flight flight q in
         let ss = sightings_of flight s.values in
         let n : NoneAfter x.moment ss = (
-            let l : later_position ss moment ≡ None = subst (λ i. later_position (sightings_of i s.values) moment ≡ None) f k in
-            subst (λ t. NoneAfter t ss) (sym m) (none_after moment no_watch ss (o flight) l)) in
+        let l : later_position ss moment ≡ None = subst (λ i. later_position (sightings_of i s.values) moment ≡ None) f k in
+        subst (λ t. NoneAfter t ss) (sym m) (none_after moment no_watch ss (o flight) l)) in
         let y : sightings_of flight after ≡ ss ++ x ∷ [] = (
-            sightings_with flight s.values after cs e ∙ ap (λ l. ss ++ sightings_in flight l) c
-            ∙ ap (λ b. ss ++ map (λ (c : Counted). c.sighting) (cond b (record { flight = p.flight; sighting = x } ∷ []) [])) q) in
+        sightings_with flight s.values after cs e ∙ ap (λ l. ss ++ sightings_in flight l) c
+        ∙ ap (λ b. ss ++ map (λ (c : Counted). c.sighting) (cond b (record { flight = p.flight; sighting = x } ∷ []) [])) q) in
         subst AreInOrder (sym y) (in_order_with x ss (o flight) n)
     go flight false q =
         let ss = sightings_of flight s.values in
         let y : sightings_of flight after ≡ ss ++ [] = (
-            sightings_with flight s.values after cs e ∙ ap (λ l. ss ++ sightings_in flight l) c
-            ∙ ap (λ b. ss ++ map (λ (c : Counted). c.sighting) (cond b (record { flight = p.flight; sighting = x } ∷ []) [])) q) in
+        sightings_with flight s.values after cs e ∙ ap (λ l. ss ++ sightings_in flight l) c
+        ∙ ap (λ b. ss ++ map (λ (c : Counted). c.sighting) (cond b (record { flight = p.flight; sighting = x } ∷ []) [])) q) in
         subst AreInOrder (sym (y ∙ append-nil ss)) (o flight)
 
 each_event : (s : Standing) (moment : ℤ) (event : Event) → IsInOrder s.values → IsInOrder (stepped s moment event).values
