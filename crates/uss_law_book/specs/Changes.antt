@@ -5,6 +5,7 @@ use Rattle.uss_event.specs.declared.entries.Entry.TheVariants.{Opened, TicketOpe
 use Rattle.uss_event.specs.declared.entries.Entry.TheVariants as Enters
 use Rattle.uss_law_book.specs.Readings.{is_ticket_open, decision_of, owed_at_end}
 use Rattle.uss_law_book.specs.Coding.{record_length}
+use Rattle.uss_law_book.specs.Reserve.{job_room}
 
 -- the entry is one of the job's after its opening
 abbrev pub is_later_of : ℕ → Entry → Bool
@@ -29,15 +30,15 @@ for_ticket false = 0
 
 -- the bytes that the entry adds to those kept free
 abbrev pub taken : List Entry → Entry → ℕ
-taken es (Opened job moment ask) = 8388608
+taken es (Opened job moment ask) = job_room
 taken es (Held job tag ovn version owed) = 64 * length owed + for_ticket (is_ticket_open job es)
 taken es (Done job end) = 64 * length (owed_at_end end) + for_ticket (is_ticket_open job es && not (is_some (decision_of job es)))
 taken es _ = 0
 
 -- the bytes that it takes away from them
 abbrev pub released : Entry → ℕ
-released (Held job tag ovn version owed) = 8388608
-released (Done job end) = 8388608
+released (Held job tag ovn version owed) = job_room
+released (Done job end) = job_room
 released (TicketGone job) = 64
 released (Sent job place) = 64
 released _ = 0

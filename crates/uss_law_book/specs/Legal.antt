@@ -19,12 +19,19 @@ use Rattle.uss_law_book.specs.Attempts.{held_state}
 use Rattle.uss_law_book.specs.Coding.{HasCoding}
 use Rattle.uss_law_book.specs.Reserve.{ReserveCovers}
 
--- a plan: 1 to 16 rounds, 1 to 8 alternatives, and each alternative one that an intent in this state may have
+-- so often a request may be attempted, and so many alternatives it may have: few, so that what its job enters has its room
+abbrev pub most_rounds : ℕ
+most_rounds = 16
+
+abbrev pub most_alternatives : ℕ
+most_alternatives = 8
+
+-- a plan: one round or more, one alternative or more, and each alternative one that an intent in this state may have
 pub record ArePlans (to : State) (priority rounds : ℕ) (proposals : List Proposal) : Type 0 where
   pub some_rounds : 1 ≤ rounds
-  pub few_rounds : rounds ≤ 16
+  pub few_rounds : rounds ≤ most_rounds
   pub some_proposals : 1 ≤ length proposals
-  pub few_proposals : length proposals ≤ 8
+  pub few_proposals : length proposals ≤ most_alternatives
   pub each : All (λ (p : Proposal). IsTrue (is_plan to p.volumes p.off_nominal priority)) proposals
 
 -- the wish is a plan, and the flight may go to its state from what is held of it; a flight that is held may be ended, whatever

@@ -11,6 +11,10 @@ use Rattle.uss_law_book.specs.Coding.{journal_length}
 abbrev pub journal_limit : ℕ
 journal_limit = 536870912
 
+-- the bytes that are kept free for an open job, 8 MiB: all that it may enter to its end has fewer, whatever it is told
+abbrev pub job_room : ℕ
+job_room = 8388608
+
 -- how many jobs are open
 abbrev pub open_jobs : List Entry → ℕ
 open_jobs book = length (filter (λ o. not (is_closed o.job book)) (openings book))
@@ -25,7 +29,7 @@ kept_tickets book = length (filter (λ o. keeps_ticket o.job book) (openings boo
 
 -- the bytes to be kept free: 8 MiB for each open job, 64 for each notification, 64 for each ticket
 unfoldable pub need : List Entry → ℕ
-need book = 8388608 * open_jobs book + 64 * untold_count book + 64 * kept_tickets book
+need book = job_room * open_jobs book + 64 * untold_count book + 64 * kept_tickets book
 
 -- the entry is one that an open job made after its opening: its bytes are among those kept free for the job
 abbrev pub is_reserved : List Entry → Entry → Bool

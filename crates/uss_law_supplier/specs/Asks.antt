@@ -24,7 +24,8 @@ use Rattle.uss_law_book.specs.Lists.{Opening, openings}
 use Rattle.uss_law_book.specs.Readings.{is_closed, open_job_of, last_of, has_ended}
 use Rattle.uss_law_book.specs.Attempts.{held_state}
 use Rattle.uss_law_book.specs.Coding.{journal_length, record_length}
-use Rattle.uss_law_book.specs.Reserve.{journal_limit, need}
+use Rattle.uss_law_book.specs.Reserve.{journal_limit, job_room, need}
+use Rattle.uss_law_book.specs.Legal.{most_rounds, most_alternatives}
 use Rattle.uss_law_duty.specs.Sends.{all_extents}
 use Rattle.uss_law_duty.specs.Answers.{kept_answer}
 use Rattle.uss_law_supplier.specs.Calls.{proposals_of}
@@ -50,8 +51,8 @@ proposals_refusal to priority proposals = first_some (map (proposal_refusal to p
 -- 127: not 1 to 16 rounds; 126: not 1 to 8 alternatives; else what is wrong with an alternative. With an End nothing is wrong
 abbrev pub plan_refusal : Wish → Option ℕ
 plan_refusal (Put to priority rounds proposals) =
-    if not (nat_le 1 rounds && nat_le rounds 16) then Some 127
-    else if not (nat_le 1 (length proposals) && nat_le (length proposals) 8) then Some 126
+    if not (nat_le 1 rounds && nat_le rounds most_rounds) then Some 127
+    else if not (nat_le 1 (length proposals) && nat_le (length proposals) most_alternatives) then Some 126
     else proposals_refusal to priority proposals
 plan_refusal End = None
 
@@ -108,7 +109,7 @@ opening_entry book moment ask = Enters.Opened (length (openings book) + 1) momen
 -- 310: the journal hasn't the room that the job may need, and its first entry, beside what is kept free
 abbrev pub full : List Entry → ℤ → FlightAsk → Option AskRefusal
 full book moment ask =
-    if nat_lt journal_limit (journal_length book + need book + 8388608 + record_length (opening_entry book moment ask))
+    if nat_lt journal_limit (journal_length book + need book + job_room + record_length (opening_entry book moment ask))
     then Some (Refuses.BookFull (journal_length book) (need book)) else None
 
 -- why a new request is refused: for the first of these that applies
