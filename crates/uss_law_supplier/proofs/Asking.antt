@@ -62,7 +62,7 @@ use Rattle.uss_law_book.proofs.Known.{Known, known_after, has_ticket, decided_ti
 use Rattle.uss_law_supplier.proofs.Onward.{IsDue as Due}
 use Rattle.uss_law_supplier.proofs.Onward.{IsOpenJob}
 use Rattle.uss_law_supplier.proofs.Fits.{fit_others}
-use Rattle.uss_law_supplier.proofs.Good.{Sound, IsRoomy, IsOnward, IsGood, good_onward, good_entering, onward_asking, none_sent}
+use Rattle.uss_law_supplier.proofs.Good.{Sound, IsOnward, IsGood, good_onward, good_entering, onward_asking, none_sent}
 use Rattle.uss_law_supplier.proofs.Jobs.{IsAt, follows, made_silently, silent_cause, good_again}
 use Rattle.uss_law_supplier.proofs.Entering.{another}
 use Rattle.uss_law_book.proofs.Still.{decision_still}
@@ -310,9 +310,9 @@ wish_coded (Put to priority rounds proposals) w e =
 wish_coded End w e = tt
 
 pub good_opened : (s : Standing) (heard : List News) (moment at : ℤ) (event : Event) (ask : FlightAsk) → Sound s → IsRequest ask → InTime at → plan_refusal ask.wish ≡ None → IfSome (last_of ask.flight s.book) (IsAfter ask) → new_refusal s.book at ask ≡ None
-    → IsRoomy s.book (opening_entry s.book at ask) → IsGood s heard moment event (entering s (opening_entry s.book at ask) (λ after. going_on after (opening_for s at ask)))
+    → IsGood s heard moment event (entering s (opening_entry s.book at ask) (λ after. going_on after (opening_for s at ask)))
 unfolding new_refusal
-good_opened s heard moment at event ask d typed time plan later none room =
+good_opened s heard moment at event ask d typed time plan later none =
     let job = length (openings s.book) + 1 in
     let e = opening_entry s.book at ask in
     let o = opening_for s at ask in
@@ -331,7 +331,7 @@ good_opened s heard moment at event ask d typed time plan later none room =
       wish = may_wish (held_state ask.flight s.book) ask.wish plan n3.0 n4.0;
     } in
     let few = few_jobs s.book d.room in
-    let m = follows s e d refl (omega (arith, few), time, record { flight = typed.flight; number = typed.number; wish = wish_coded ask.wish typed.wish plan }) (spared_of s.book at ask n7.0) room due in
+    let m = follows s e d refl (omega (arith, few), time, record { flight = typed.flight; number = typed.number; wish = wish_coded ask.wish typed.wish plan }) (spared_of s.book at ask n7.0) due in
     let book = s.book ++ e ∷ [] in
     let orderly = orderly_after s.book e d.orderly m in
     let known = known_after s.book e d.orderly d.known due in
@@ -402,83 +402,79 @@ abbrev pub IsAbout : Event → FlightAsk → Type 0
 IsAbout event ask = (book : List Entry) → job_named event book ≡ job_of_request ask.flight ask.number book
 
 good_anew : (s : Standing) (heard : List News) (moment at : ℤ) (event : Event) (ask : FlightAsk) → Sound s → IsRequest ask → InTime at → plan_refusal ask.wish ≡ None → IfSome (last_of ask.flight s.book) (IsAfter ask)
-    → IfSome (asked_anew s at ask).entry (IsRoomy s.book) → IsGood s heard moment event (asked_anew s at ask)
-good_anew s heard moment at event ask d typed time plan later room = go (new_refusal s.book at ask) refl room
+    → IsGood s heard moment event (asked_anew s at ask)
+good_anew s heard moment at event ask d typed time plan later = go (new_refusal s.book at ask) refl
   where
-    go : (x : Option AskRefusal) → new_refusal s.book at ask ≡ x → IfSome (new_by s at ask x).entry (IsRoomy s.book) → IsGood s heard moment event (new_by s at ask x)
-    go None e r = good_opened s heard moment at event ask d typed time plan later e r
-    go (Some refusal) e r = good_refusing s heard moment event refusal d (never_old s.book at ask refusal e)
+    go : (x : Option AskRefusal) → new_refusal s.book at ask ≡ x → IsGood s heard moment event (new_by s at ask x)
+    go None e = good_opened s heard moment at event ask d typed time plan later e
+    go (Some refusal) e = good_refusing s heard moment event refusal d (never_old s.book at ask refusal e)
 
 good_repeated : (s : Standing) (heard : List News) (moment : ℤ) (event : Event) (ask : FlightAsk) (last : Opening) → Sound s → IsAbout event ask → last_of ask.flight s.book ≡ Some last → last.ask.number ≡ ask.number
-    → IfSome (repeated s last ask).entry (IsRoomy s.book) → IsGood s heard moment event (repeated s last ask)
-good_repeated s heard moment event ask last d about e n room = at_field (differing last.ask.wish ask.wish) room
+    → IsGood s heard moment event (repeated s last ask)
+good_repeated s heard moment event ask last d about e n = at_field (differing last.ask.wish ask.wish)
   where
     l : Has (openings s.book) last × (last.ask.flight ≡ ask.flight)
     l = last_is ask.flight s.book last e
 
-    at_closed : (b : Bool) → is_closed last.job s.book ≡ b → IfSome (asked_for s last b).entry (IsRoomy s.book) → IsGood s heard moment event (asked_for s last b)
-    at_closed true q r = good_again s heard moment event last d q (about s.book ∙ request_found ask.flight ask.number s.book last d.orderly l.0 l.1 n)
-    at_closed false q r = good_resuming s heard moment event last (at_hand s last d l.0 q) r
+    at_closed : (b : Bool) → is_closed last.job s.book ≡ b → IsGood s heard moment event (asked_for s last b)
+    at_closed true q = good_again s heard moment event last d q (about s.book ∙ request_found ask.flight ask.number s.book last d.orderly l.0 l.1 n)
+    at_closed false q = good_resuming s heard moment event last (at_hand s last d l.0 q)
 
-    at_field : (x : Option AskField) → IfSome (repeated_by s last x).entry (IsRoomy s.book) → IsGood s heard moment event (repeated_by s last x)
-    at_field (Some field) r = good_refusing s heard moment event (Refuses.DifferentRepeat field) d refl
-    at_field None r = at_closed (is_closed last.job s.book) refl r
+    at_field : (x : Option AskField) → IsGood s heard moment event (repeated_by s last x)
+    at_field (Some field) = good_refusing s heard moment event (Refuses.DifferentRepeat field) d refl
+    at_field None = at_closed (is_closed last.job s.book) refl
 
-pub good_asked : (s : Standing) (heard : List News) (moment at : ℤ) (event : Event) (ask : FlightAsk) → Sound s → IsRequest ask → InTime at → IsAbout event ask → IfSome (asked s at ask).entry (IsRoomy s.book)
-    → IsGood s heard moment event (asked s at ask)
-good_asked s heard moment at event ask d typed time about room = at_plan (plan_refusal ask.wish) refl room
+pub good_asked : (s : Standing) (heard : List News) (moment at : ℤ) (event : Event) (ask : FlightAsk) → Sound s → IsRequest ask → InTime at → IsAbout event ask → IsGood s heard moment event (asked s at ask)
+good_asked s heard moment at event ask d typed time about = at_plan (plan_refusal ask.wish) refl
   where
     at_same : (last : Opening) → last_of ask.flight s.book ≡ Some last → plan_refusal ask.wish ≡ None → last.ask.number ≤ ask.number → (b : Bool) → (ask.number == last.ask.number) ≡ b
-        → IfSome (cond b (repeated s last ask) (asked_anew s at ask)).entry (IsRoomy s.book) → IsGood s heard moment event (cond b (repeated s last ask) (asked_anew s at ask))
-    at_same last e plan k true q r = good_repeated s heard moment event ask last d about e (sym (same_number ask.number last.ask.number q)) r
-    at_same last e plan k false q r =
+        → IsGood s heard moment event (cond b (repeated s last ask) (asked_anew s at ask))
+    at_same last e plan k true q = good_repeated s heard moment event ask last d about e (sym (same_number ask.number last.ask.number q))
+    at_same last e plan k false q =
         let n = other_number ask.number last.ask.number q in
         let later : last.ask.number < ask.number = omega (arith, k, n) in
-        good_anew s heard moment at event ask d typed time plan (subst (λ (x : Option Opening). IfSome x (IsAfter ask)) (sym e) later) r
+        good_anew s heard moment at event ask d typed time plan (subst (λ (x : Option Opening). IfSome x (IsAfter ask)) (sym e) later)
 
     at_less : (last : Opening) → last_of ask.flight s.book ≡ Some last → plan_refusal ask.wish ≡ None → (b : Bool) → nat_lt ask.number last.ask.number ≡ b
-        → IfSome (cond b (refusing s (Refuses.OldNumber last.ask.number)) (cond (ask.number == last.ask.number) (repeated s last ask) (asked_anew s at ask))).entry (IsRoomy s.book)
         → IsGood s heard moment event (cond b (refusing s (Refuses.OldNumber last.ask.number)) (cond (ask.number == last.ask.number) (repeated s last ask) (asked_anew s at ask)))
-    at_less last e plan true q r = good_refusing s heard moment event (Refuses.OldNumber last.ask.number) d refl
-    at_less last e plan false q r = at_same last e plan (not_less ask.number last.ask.number q) (ask.number == last.ask.number) refl r
+    at_less last e plan true q = good_refusing s heard moment event (Refuses.OldNumber last.ask.number) d refl
+    at_less last e plan false q = at_same last e plan (not_less ask.number last.ask.number q) (ask.number == last.ask.number) refl
 
-    at_last : (x : Option Opening) → last_of ask.flight s.book ≡ x → plan_refusal ask.wish ≡ None → IfSome (asked_after s at ask x).entry (IsRoomy s.book) → IsGood s heard moment event (asked_after s at ask x)
-    at_last None e plan r = good_anew s heard moment at event ask d typed time plan (rw e tt) r
-    at_last (Some last) e plan r = at_less last e plan (nat_lt ask.number last.ask.number) refl r
+    at_last : (x : Option Opening) → last_of ask.flight s.book ≡ x → plan_refusal ask.wish ≡ None → IsGood s heard moment event (asked_after s at ask x)
+    at_last None e plan = good_anew s heard moment at event ask d typed time plan (rw e tt)
+    at_last (Some last) e plan = at_less last e plan (nat_lt ask.number last.ask.number) refl
 
-    at_plan : (x : Option ℕ) → plan_refusal ask.wish ≡ x → IfSome (asked_with s at ask x).entry (IsRoomy s.book) → IsGood s heard moment event (asked_with s at ask x)
-    at_plan (Some number) e r = good_refusing s heard moment event (Refuses.BadPlan number) d refl
-    at_plan None e r = at_last (last_of ask.flight s.book) refl e r
+    at_plan : (x : Option ℕ) → plan_refusal ask.wish ≡ x → IsGood s heard moment event (asked_with s at ask x)
+    at_plan (Some number) e = good_refusing s heard moment event (Refuses.BadPlan number) d refl
+    at_plan None e = at_last (last_of ask.flight s.book) refl e
 
 -- a cancel
 
-pub good_cancelled : (s : Standing) (heard : List News) (moment : ℤ) (flight number : ℕ) → Sound s → IfSome (cancelled s flight number).entry (IsRoomy s.book)
-    → IsGood s heard moment (Comes.Cancel flight number) (cancelled s flight number)
-good_cancelled s heard moment flight number d room = at_last (last_of flight s.book) refl room
+pub good_cancelled : (s : Standing) (heard : List News) (moment : ℤ) (flight number : ℕ) → Sound s → IsGood s heard moment (Comes.Cancel flight number) (cancelled s flight number)
+good_cancelled s heard moment flight number d = at_last (last_of flight s.book) refl
   where
     event : Event
     event = Comes.Cancel flight number
 
     at_end : (last : Opening) → IsAt s last → job_named event s.book ≡ Some last → (b : Bool) → (is_end last.ask.wish || is_some (decision_of last.job s.book)) ≡ b
-        → IfSome (cancelled_open s last b).entry (IsRoomy s.book) → IsGood s heard moment event (cancelled_open s last b)
-    at_end last a named true q r = good_resuming s heard moment event last a r
-    at_end last a named false q r =
+        → IsGood s heard moment event (cancelled_open s last b)
+    at_end last a named true q = good_resuming s heard moment event last a
+    at_end last a named false q =
         let n = neither (is_end last.ask.wish) (is_some (decision_of last.job s.book)) q in
-        good_giving_up s heard moment event last Ends.Cancelled a (not_end last.ask.wish n.0) (none_is (decision_of last.job s.book) n.1) (λ tried rounds. tt) tt refl tt named r
+        good_giving_up s heard moment event last Ends.Cancelled a (not_end last.ask.wish n.0) (none_is (decision_of last.job s.book) n.1) (λ tried rounds. tt) tt refl tt named
 
     at_closed : (last : Opening) → Has (openings s.book) last → job_named event s.book ≡ Some last → (b : Bool) → is_closed last.job s.book ≡ b
-        → IfSome (cancelled_job s last b).entry (IsRoomy s.book) → IsGood s heard moment event (cancelled_job s last b)
-    at_closed last h named true q r = good_again s heard moment event last d q named
-    at_closed last h named false q r = at_end last (at_hand s last d h q) named (is_end last.ask.wish || is_some (decision_of last.job s.book)) refl r
+        → IsGood s heard moment event (cancelled_job s last b)
+    at_closed last h named true q = good_again s heard moment event last d q named
+    at_closed last h named false q = at_end last (at_hand s last d h q) named (is_end last.ask.wish || is_some (decision_of last.job s.book)) refl
 
     at_number : (last : Opening) → last_of flight s.book ≡ Some last → (b : Bool) → (number == last.ask.number) ≡ b
-        → IfSome (cond b (cancelled_job s last (is_closed last.job s.book)) (refusing s (Refuses.NotAsked last.ask.number))).entry (IsRoomy s.book)
         → IsGood s heard moment event (cond b (cancelled_job s last (is_closed last.job s.book)) (refusing s (Refuses.NotAsked last.ask.number)))
-    at_number last e true q r =
+    at_number last e true q =
         let l = last_is flight s.book last e in
-        at_closed last l.0 (request_found flight number s.book last d.orderly l.0 l.1 (sym (same_number number last.ask.number q))) (is_closed last.job s.book) refl r
-    at_number last e false q r = good_refusing s heard moment event (Refuses.NotAsked last.ask.number) d refl
+        at_closed last l.0 (request_found flight number s.book last d.orderly l.0 l.1 (sym (same_number number last.ask.number q))) (is_closed last.job s.book) refl
+    at_number last e false q = good_refusing s heard moment event (Refuses.NotAsked last.ask.number) d refl
 
-    at_last : (x : Option Opening) → last_of flight s.book ≡ x → IfSome (cancelled_after s number x).entry (IsRoomy s.book) → IsGood s heard moment event (cancelled_after s number x)
-    at_last None e r = good_refusing s heard moment event Refuses.NoSuchFlight d refl
-    at_last (Some last) e r = at_number last e (number == last.ask.number) refl r
+    at_last : (x : Option Opening) → last_of flight s.book ≡ x → IsGood s heard moment event (cancelled_after s number x)
+    at_last None e = good_refusing s heard moment event Refuses.NoSuchFlight d refl
+    at_last (Some last) e = at_number last e (number == last.ask.number) refl

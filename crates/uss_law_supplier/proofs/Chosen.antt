@@ -49,7 +49,7 @@ use Rattle.uss_law_supplier.specs.Airspace.{flight_found, held_as, is_own, pair_
 use Rattle.uss_law_supplier.specs.Jobs.{keeps_key, pending, giving_up_after, giving_up, blocked_by, choosing_by, choosing}
 use Rattle.uss_law_supplier.specs.Fitting.{IsPhase}
 use Rattle.uss_law_book.proofs.Known.{IsFirm}
-use Rattle.uss_law_supplier.proofs.Good.{Sound, IsRoomy, IsGood}
+use Rattle.uss_law_supplier.proofs.Good.{Sound, IsGood}
 use Rattle.uss_law_supplier.specs.Typed.{IsIntent}
 use Rattle.uss_law_supplier.proofs.Coded.{all_from, held_pair_coded, decision_ends}
 use Rattle.uss_law_supplier.proofs.Jobs.{IsAt}
@@ -202,17 +202,17 @@ ends_wish book job end End h e = cc
 
 pub good_giving_up : (s : Standing) (heard : List News) (moment : ℤ) (event : Event) (o : Opening) (end : Ending) → IsAt s o → is_put o.ask.wish ≡ true → decision_of o.job s.book ≡ None
     → ((tried rounds : ℕ) → MayEndSo tried rounds end) → EndsUntried (is_ticket_open o.job s.book) end → is_ended end ≡ false → IsDecision end → job_named event s.book ≡ Some o
-    → IfSome (giving_up s o end).entry (IsRoomy s.book) → IsGood s heard moment event (giving_up s o end)
-good_giving_up s heard moment event o end a put undecided so untried not_ended valid named room = go (trials_of o.job s.book) refl room
+    → IsGood s heard moment event (giving_up s o end)
+good_giving_up s heard moment event o end a put undecided so untried not_ended valid named = go (trials_of o.job s.book) refl
   where
-    go : (ts : List Trial) → trials_of o.job s.book ≡ ts → IfSome (giving_up_after s o end ts).entry (IsRoomy s.book) → IsGood s heard moment event (giving_up_after s o end ts)
-    go [] e r =
+    go : (ts : List Trial) → trials_of o.job s.book ≡ ts → IsGood s heard moment event (giving_up_after s o end ts)
+    go [] e =
         good_ending s heard moment event o end a
         (record { opening = o; opened = a.unfinished.opened; unclosed = a.unfinished.unclosed; wish = ends_wish s.book o.job end o.ask.wish put (inr (e, untried)) })
         ((λ q. not_both (is_ended end) q not_ended), (λ q. not_both (is_some (decision_of o.job s.book)) q (rw undecided refl)))
-        named (decision_ends end valid) r
-    go (t ∷ ts) e r =
-        good_deciding s heard moment event o end a (record { put = put; tried = rw e (omega arith); undecided = undecided; so = so (length (trials_of o.job s.book)) (rounds_of o.ask.wish) }) valid r
+        named (decision_ends end valid)
+    go (t ∷ ts) e =
+        good_deciding s heard moment event o end a (record { put = put; tried = rw e (omega arith); undecided = undecided; so = so (length (trials_of o.job s.book)) (rounds_of o.ask.wish) }) valid
 
 -- a choice
 
@@ -227,27 +227,27 @@ firm_put : (wish : Wish) (to : State) (priority rounds : ℕ) (proposals : List 
 firm_put wish to priority rounds proposals w f = subst IsFirm w f
 
 pub good_choosing : (s : Standing) (heard : List News) (moment : ℤ) (event : Event) (o : Opening) → IsAt s o → IsPhase s.book o Waits.Details → length (round_of o.job s.values).found ≤ 1024
-    → HearsOnly heard event s.values.heard → job_named event s.book ≡ Some o → IfSome (choosing s o).entry (IsRoomy s.book) → IsGood s heard moment event (choosing s o)
-good_choosing s heard moment event o a p few hears named room =
+    → HearsOnly heard event s.values.heard → job_named event s.book ≡ Some o → IsGood s heard moment event (choosing s o)
+good_choosing s heard moment event o a p few hears named =
     let w = keyed_put o.ask.wish p.1 in
     let pairs = pairs_in s (round_of o.job s.values) in
     let wants = wanted s.owner.table (flight_of s.owner o) w.0 w.1 (held o.ask.flight s.book) in
-    go w.0 w.1 w.2 w.3 w.4 w.5 (choice_of s o pairs) (by_put w.0 w.1 w.2 w.3 pairs w.4) room
+    go w.0 w.1 w.2 w.3 w.4 w.5 (choice_of s o pairs) (by_put w.0 w.1 w.2 w.3 pairs w.4)
   where
     by_put : (to : State) (priority rounds : ℕ) (proposals : List Proposal) (pairs : List OperationalIntent) → o.ask.wish ≡ Put to priority rounds proposals
         → choice (wanted s.owner.table (flight_of s.owner o) to priority (held o.ask.flight s.book)) proposals pairs ≡ choice_of s o pairs
     by_put to priority rounds proposals pairs w = rw w refl
 
-    at_pair : (x : Option OperationalIntent) (rule : Verdict) (q : OperationalIntent) → x ≡ Some q → is_clear rule ≡ false → IsIntent q → IfSome (blocked_by s o rule x).entry (IsRoomy s.book) → IsGood s heard moment event (blocked_by s o rule x)
-    at_pair None rule q e v t r = cc
-    at_pair (Some q2) rule q e v t r =
+    at_pair : (x : Option OperationalIntent) (rule : Verdict) (q : OperationalIntent) → x ≡ Some q → is_clear rule ≡ false → IsIntent q → IsGood s heard moment event (blocked_by s o rule x)
+    at_pair None rule q e v t = cc
+    at_pair (Some q2) rule q e v t =
         good_giving_up s heard moment event o (Ends.Conflict q2.reference.flight q2.reference.manager rule) a p.0.put p.0.undecided (λ tried rounds. tt) p.0.ticket refl
-        (conflict_is_valid q2 rule (subst IsIntent (sym (some_same q2 q e)) t) v) named r
+        (conflict_is_valid q2 rule (subst IsIntent (sym (some_same q2 q e)) t) v) named
 
     go : (to : State) (priority rounds : ℕ) (proposals : List Proposal) (w : o.ask.wish ≡ Put to priority rounds proposals) → is_strategic to ≡ true → (c : Choice)
         → choice (wanted s.owner.table (flight_of s.owner o) to priority (held o.ask.flight s.book)) proposals (pairs_in s (round_of o.job s.values)) ≡ c
-        → IfSome (choosing_by s o (pairs_in s (round_of o.job s.values)) c).entry (IsRoomy s.book) → IsGood s heard moment event (choosing_by s o (pairs_in s (round_of o.job s.values)) c)
-    go to priority rounds proposals w keyed (Chosen alternative) e r =
+        → IsGood s heard moment event (choosing_by s o (pairs_in s (round_of o.job s.values)) c)
+    go to priority rounds proposals w keyed (Chosen alternative) e =
         let f = chosen_is_free (wanted s.owner.table (flight_of s.owner o) to priority (held o.ask.flight s.book)) proposals (pairs_in s (round_of o.job s.values)) alternative e in
         let k = key_is_short s (round_of o.job s.values) in
         good_attempting s heard moment event o alternative (key_of (pairs_in s (round_of o.job s.values))) a
@@ -266,9 +266,8 @@ good_choosing s heard moment event o a p few hears named room =
         })
         (key_is_clear s heard event o (round_of o.job s.values) alternative to priority rounds proposals f.proposal a hears w f.at f.free)
         (key_is_valid s (round_of o.job s.values) a.sound)
-        r
-    go to priority rounds proposals w keyed (Blocked place rule) e r =
+    go to priority rounds proposals w keyed (Blocked place rule) e =
         let plans = firm_put o.ask.wish to priority rounds proposals w (a.sound.known.firm o a.has) in
         let some = plans.some_proposals in
         let b = blocked_is_by (wanted s.owner.table (flight_of s.owner o) to priority (held o.ask.flight s.book)) proposals (pairs_in s (round_of o.job s.values)) place rule (omega (arith, some)) e in
-        at_pair (slice_get (pairs_in s (round_of o.job s.values)) place) rule b.pair b.at b.against (pair_is_valid s (round_of o.job s.values) b.pair a.sound (got_has (pairs_in s (round_of o.job s.values)) place b.pair b.at)) r
+        at_pair (slice_get (pairs_in s (round_of o.job s.values)) place) rule b.pair b.at b.against (pair_is_valid s (round_of o.job s.values) b.pair a.sound (got_has (pairs_in s (round_of o.job s.values)) place b.pair b.at))

@@ -1,5 +1,5 @@
 -- That a supplier may enter what a chore of a closed job comes to.
-use Rattle.std.proofs.Common.{ℕ, zero, suc, ℤ, ◌<◌, ◌+◌, ◌==◌, ◌≢◌, Bool, true, false, not, ◌&&◌, List, [], ◌∷◌, ◌++◌, ◌≡◌, inl, inr, length, refl, ap, sym, subst, ◌∙◌, arith, Some, is_some, IfSome}
+use Rattle.std.proofs.Common.{ℕ, zero, suc, ℤ, ◌<◌, ◌+◌, ◌==◌, ◌≢◌, Bool, true, false, not, ◌&&◌, List, [], ◌∷◌, ◌++◌, ◌≡◌, inl, inr, length, refl, ap, sym, subst, ◌∙◌, arith, Some, is_some}
 use Rattle.std.specs.List.{range_with_len}
 use Rattle.uss_intent.specs.Same.{same_ask}
 use Rattle.uss_intent.specs.SameLaws.{ask_is_same}
@@ -41,7 +41,7 @@ use Rattle.uss_law_book.proofs.Others.{is_of_job}
 use Rattle.uss_law_book.proofs.Known.{ticket_puts}
 use Rattle.uss_law_supplier.proofs.Onward.{IsDue as Due}
 use Rattle.uss_law_supplier.proofs.Fits.{all_fit, fit_others}
-use Rattle.uss_law_supplier.proofs.Good.{Sound, IsRoomy, IsEntryDue, IsGood, none_sent}
+use Rattle.uss_law_supplier.proofs.Good.{Sound, IsEntryDue, IsGood, none_sent}
 use Rattle.uss_law_supplier.proofs.Coded.{job_coded, few_owed}
 use Rattle.uss_law_supplier.proofs.Jobs.{follows, good_again}
 use Rattle.uss_law_supplier.proofs.Entering.{another}
@@ -94,10 +94,10 @@ removed_by (Replies.Refused refusal) h = by_refusal refusal h
 removed_by _ h = cc
 
 pub good_closed_by_dss : (s : Standing) (heard : List News) (moment : ℤ) (o : Opening) (call : DssCall) (reply : DssReply) → Sound s → opening_of call.job s.book ≡ Some o → is_closed o.job s.book ≡ true
-    → (b : Bool) → retires s o call.ask reply ≡ b → IfSome (closed_by_dss s o b).entry (IsRoomy s.book) → IsGood s heard moment (Comes.Dss call reply) (closed_by_dss s o b)
+    → (b : Bool) → retires s o call.ask reply ≡ b → IsGood s heard moment (Comes.Dss call reply) (closed_by_dss s o b)
 unfolding retires
-good_closed_by_dss s heard moment o call reply d named c false e room = good_again s heard moment (Comes.Dss call reply) o d c named
-good_closed_by_dss s heard moment o call reply d named c true e room =
+good_closed_by_dss s heard moment o call reply d named c false e = good_again s heard moment (Comes.Dss call reply) o d c named
+good_closed_by_dss s heard moment o call reply d named c true e =
     let p1 = both (same_ask call.ask (ticket_remove s.owner o.job)) _ e in
     let p2 = both (fits call.ask reply) _ p1.1 in
     let p3 = both (takes_out reply) (is_ticket_due o.job s.book) p2.1 in
@@ -114,7 +114,7 @@ good_closed_by_dss s heard moment o call reply d named c true e room =
       not_gone = not_true (is_ticket_gone o.job s.book) q3.1;
       unneeded = not_true (is_ticket_needed o.job s.book) q1.1;
     } in
-    let m = follows s (Enters.TicketGone o.job) d refl (job_coded s o d (opening_has s.book call.job o named).0) tt room due in
+    let m = follows s (Enters.TicketGone o.job) d refl (job_coded s o d (opening_has s.book call.job o named).0) tt due in
     good_chore s heard moment (Comes.Dss call reply) o.job (Enters.TicketGone o.job) d c
     (record { follows = m; keys = tt; held = tt; removals = record { reply = reply; answers = (sym j, ask, refl); removed = removed_by reply p3.0 }; tickets = tt })
     (λ i n. another i o.job n)
@@ -138,16 +138,16 @@ untold_is job place book h =
     ((let b = r in omega (arith, b, q)), subst (λ p. is_told job p book ≡ false) q (not_true (is_told job a.0 book) g))
 
 pub good_closed_by_peer : (s : Standing) (heard : List News) (moment : ℤ) (o : Opening) (call : PeerCall) (reply : PeerReply) → Sound s → opening_of (job_of_call call) s.book ≡ Some o → is_closed o.job s.book ≡ true
-    → (b : Bool) → is_told_now s o call reply ≡ b → IfSome (closed_by_peer s o call b).entry (IsRoomy s.book) → IsGood s heard moment (Comes.Peer call reply) (closed_by_peer s o call b)
+    → (b : Bool) → is_told_now s o call reply ≡ b → IsGood s heard moment (Comes.Peer call reply) (closed_by_peer s o call b)
 unfolding is_told_now
-good_closed_by_peer s heard moment o call reply d named c false e room = good_again s heard moment (Comes.Peer call reply) o d c named
-good_closed_by_peer s heard moment o (Calls.Notify job place base note) Peers.Noted d named c true e room =
+good_closed_by_peer s heard moment o call reply d named c false e = good_again s heard moment (Comes.Peer call reply) o d c named
+good_closed_by_peer s heard moment o (Calls.Notify job place base note) Peers.Noted d named c true e =
     let u = untold_is o.job place s.book e in
     let j = (opening_has s.book job o named).1 in
     let due : IsDue s.book (Enters.Sent o.job place) = record { closed = c; owed = u.0; new = u.1 } in
     let few = few_owed s o.job d in
     let l = u.0 in
-    let m = follows s (Enters.Sent o.job place) d refl (job_coded s o d (opening_has s.book job o named).0, omega (arith, few, l)) tt room due in
+    let m = follows s (Enters.Sent o.job place) d refl (job_coded s o d (opening_has s.book job o named).0, omega (arith, few, l)) tt due in
     good_chore s heard moment (Comes.Peer (Calls.Notify job place base note) Peers.Noted) o.job (Enters.Sent o.job place) d c (record { follows = m; keys = tt; held = tt; removals = tt; tickets = tt }) (λ i n. another i o.job n)
     (unprompted job s.book true (subst (λ k. is_closed k s.book ≡ true) j c) refl)
-good_closed_by_peer s heard moment o call reply d named c true e room = cc
+good_closed_by_peer s heard moment o call reply d named c true e = cc

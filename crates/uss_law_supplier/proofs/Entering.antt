@@ -28,7 +28,7 @@ use Rattle.uss_law_supplier.specs.Fitting.{IsPhase}
 use Rattle.uss_law_book.proofs.Others.{trials_either, ticket_either}
 use Rattle.uss_law_book.proofs.Still.{decision_still, decided_then}
 use Rattle.uss_law_book.proofs.Known.{IsFirm, tried_ticketed, decided_ticketed}
-use Rattle.uss_law_supplier.proofs.Good.{IsRoomy, IsGood}
+use Rattle.uss_law_supplier.proofs.Good.{IsGood}
 use Rattle.uss_law_supplier.proofs.Coded.{job_coded, pending_coded, held_coded}
 use Rattle.uss_law_supplier.proofs.Jobs.{IsAt, follows, still_open, good_then, good_closing}
 
@@ -90,8 +90,8 @@ tried_then s o alternative key =
     omega (arith, g)
 
 pub good_attempting : (s : Standing) (heard : List News) (moment : ℤ) (event : Event) (o : Opening) (alternative : ℕ) (key : List (List ℕ)) → IsAt s o → IsRight s o alternative key
-    → KeyIsClear s.owner s.book heard event (pending s o alternative key) → All IsOvn key → IsRoomy s.book (pending s o alternative key) → IsGood s heard moment event (attempting s o alternative key)
-good_attempting s heard moment event o alternative key a r k valid room =
+    → KeyIsClear s.owner s.book heard event (pending s o alternative key) → All IsOvn key → IsGood s heard moment event (attempting s o alternative key)
+good_attempting s heard moment event o alternative key a r k valid =
     let e = pending s o alternative key in
     let due : IsDue s.book e = record {
       opening = o;
@@ -112,7 +112,7 @@ good_attempting s heard moment event o alternative key a r k valid room =
     let plans : ArePlans r.to r.priority r.rounds r.proposals = subst IsFirm r.put (a.sound.known.firm o a.has) in
     let eight = plans.few_proposals in
     let one = r.one_of in
-    let m = follows s e a.sound refl (pending_coded s o alternative key a.sound a.has (omega (arith, eight, one)) r.few valid) tt room due in
+    let m = follows s e a.sound refl (pending_coded s o alternative key a.sound a.has (omega (arith, eight, one)) r.few valid) tt due in
     good_then s heard moment event o e Waits.Put (record { follows = m; keys = k; held = tt; removals = tt; tickets = tt }) (still_open s o e a m (pending_leaves_open s o alternative key) (λ i n. another i o.job n))
     (record { put = ap is_put r.put; undecided = decision_still o.job s.book e refl ∙ r.undecided; tried = tried_then s o alternative key }) (λ q. cc)
 
@@ -131,9 +131,8 @@ pub put_with : (wish : Wish) → is_put wish ≡ true → (to : State) × (prior
 put_with (Put to priority rounds proposals) h = (to, priority, rounds, proposals, refl)
 put_with End h = cc
 
-pub good_deciding : (s : Standing) (heard : List News) (moment : ℤ) (event : Event) (o : Opening) (end : Ending) → IsAt s o → MayGiveUp s o end → IsDecision end → IsRoomy s.book (Enters.Deciding o.job end)
-    → IsGood s heard moment event (deciding s o end)
-good_deciding s heard moment event o end a g valid room =
+pub good_deciding : (s : Standing) (heard : List News) (moment : ℤ) (event : Event) (o : Opening) (end : Ending) → IsAt s o → MayGiveUp s o end → IsDecision end → IsGood s heard moment event (deciding s o end)
+good_deciding s heard moment event o end a g valid =
     let e = Enters.Deciding o.job end in
     let w = put_with o.ask.wish g.put in
     let due : IsDue s.book e = record {
@@ -147,27 +146,26 @@ good_deciding s heard moment event o end a g valid room =
       undecided = g.undecided;
       so = subst (λ r. MayEndSo (length (trials_of o.job s.book)) r end) (ap rounds_of w.4) g.so;
     } in
-    let m = follows s e a.sound refl (job_coded s o a.sound a.has, valid) tt room due in
+    let m = follows s e a.sound refl (job_coded s o a.sound a.has, valid) tt due in
     good_then s heard moment event o e Waits.TicketRemove (record { follows = m; keys = tt; held = tt; removals = tt; tickets = tt }) (still_open s o e a m (decision_leaves_open o.job end) (λ i n. another i o.job n))
     (g.put, decided_then o.job s.book end g.undecided) (λ q. cc)
 
 -- an end
 
 pub good_ending : (s : Standing) (heard : List News) (moment : ℤ) (event : Event) (o : Opening) (end : Ending) → IsAt s o → MayEnd s.book o.job end → EndsAs s.owner s.book event o.job end
-    → job_named event s.book ≡ Some o → IsEnding end → IsRoomy s.book (Enters.Done o.job end) → IsGood s heard moment event (ending s o end)
-good_ending s heard moment event o end a due shown n valid room =
+    → job_named event s.book ≡ Some o → IsEnding end → IsGood s heard moment event (ending s o end)
+good_ending s heard moment event o end a due shown n valid =
     let e = Enters.Done o.job end in
-    let m = follows s e a.sound refl (job_coded s o a.sound a.has, valid) tt room due in
+    let m = follows s e a.sound refl (job_coded s o a.sound a.has, valid) tt due in
     good_closing s heard moment event o e a (record { follows = m; keys = tt; held = tt; removals = shown; tickets = tt }) (done_closes_it o.job end) (λ i n. another i o.job n) n
 
 -- a record
 
 pub good_holding : (s : Standing) (heard : List News) (moment : ℤ) (event : Event) (o : Opening) (tag : ℕ) (ovn : List ℕ) (version : ℕ) (owed : List Subscriber) → IsAt s o → MayHold s.book o.job tag
-    → HoldsByReply s.owner s.book event o.job tag ovn version → job_named event s.book ≡ Some o → IsOvn ovn → version < 2 ^ 32 → AreOwed owed → IsRoomy s.book (Enters.Held o.job tag ovn version owed)
-    → IsGood s heard moment event (entering s (Enters.Held o.job tag ovn version owed) (answering o))
-good_holding s heard moment event o tag ovn version owed a due shown n valid fits few room =
+    → HoldsByReply s.owner s.book event o.job tag ovn version → job_named event s.book ≡ Some o → IsOvn ovn → version < 2 ^ 32 → AreOwed owed → IsGood s heard moment event (entering s (Enters.Held o.job tag ovn version owed) (answering o))
+good_holding s heard moment event o tag ovn version owed a due shown n valid fits few =
     let e = Enters.Held o.job tag ovn version owed in
-    let m = follows s e a.sound refl (held_coded s o tag ovn version owed a.sound a.has due.own valid fits few) tt room due in
+    let m = follows s e a.sound refl (held_coded s o tag ovn version owed a.sound a.has due.own valid fits few) tt due in
     good_closing s heard moment event o e a (record { follows = m; keys = tt; held = shown; removals = tt; tickets = tt }) (held_closes_it o.job tag ovn version owed) (λ i n. another i o.job n) n
 
 -- a ticket
@@ -188,8 +186,8 @@ undecided_without s o a h = go (decision_of o.job s.book) refl
     go (Some d) e = not_both (is_ticket_open o.job s.book) (decided_ticketed o.job s.book a.sound.known (rw e refl)) h
 
 pub good_opening : (s : Standing) (heard : List News) (moment : ℤ) (event : Event) (o : Opening) → IsAt s o → IsPhase s.book o Waits.TicketPut → OpensByReply s.owner s.book event o.job
-    → IsRoomy s.book (Enters.TicketOpen o.job) → IsGood s heard moment event (entering s (Enters.TicketOpen o.job) (λ after. asking after o Waits.Query))
-good_opening s heard moment event o a p shown room =
+    → IsGood s heard moment event (entering s (Enters.TicketOpen o.job) (λ after. asking after o Waits.Query))
+good_opening s heard moment event o a p shown =
     let e = Enters.TicketOpen o.job in
     let w = put_with o.ask.wish p.0 in
     let due : IsDue s.book e = record {
@@ -201,7 +199,7 @@ good_opening s heard moment event o a p shown room =
       unfinished = record { opened = a.unfinished.opened; put = w.4; unclosed = a.unfinished.unclosed };
       new = p.1;
     } in
-    let m = follows s e a.sound refl (job_coded s o a.sound a.has) tt room due in
+    let m = follows s e a.sound refl (job_coded s o a.sound a.has) tt due in
     let none = none_tried (length (trials_of o.job s.book)) (is_ticket_open o.job s.book) (tried_ticketed o.job s.book a.sound.known) p.1 in
     let one = some_round o.ask.wish p.0 (a.sound.known.firm o a.has) in
     good_then s heard moment event o e Waits.Query (record { follows = m; keys = tt; held = tt; removals = tt; tickets = shown }) (still_open s o e a m (ticket_leaves_open o.job) (λ i n. another i o.job n))

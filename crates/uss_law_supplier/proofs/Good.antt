@@ -10,7 +10,6 @@ use Rattle.uss_law_dss.specs.Lists.{Has}
 use Rattle.uss_law_book.specs.Lists.{Opening, owner_of, openings}
 use Rattle.uss_law_book.specs.Reserve.{ReserveCovers}
 use Rattle.uss_law_book.specs.Legal.{MayFollow, IsLegal}
-use Rattle.uss_law_book.specs.Room.{IsNext}
 use Rattle.uss_law_book.specs.Orderly.{IsOrderly}
 use Rattle.uss_law_duty.specs.Heard.{News}
 use Rattle.uss_law_duty.specs.Duties.{book_after, HearsOnly, GoesOn, MayStep, says_something}
@@ -39,10 +38,6 @@ pub record Sound (s : Standing) : Type 0 where
   pub room : ReserveCovers s.book
   pub fit : IsFit s.owner s.book s.values
   pub heard : IsHeard s.values.heard
-
--- there is room for the entry
-pub record IsRoomy (book : List Entry) (e : Entry) : Type 0 where
-  pub room : IsNext book e → ReserveCovers (book ++ e ∷ [])
 
 -- what an entry rests on
 pub record IsEntryDue (owner : Owner) (book : List Entry) (heard : List News) (event : Event) (e : Entry) : Type 0 where

@@ -30,8 +30,8 @@ use Rattle.uss_law_supplier.specs.Replies.{heard_by}
 use Rattle.uss_law_supplier.specs.Step.{stepped, is_of_another, notified_by, supplier_step}
 use Rattle.uss_law_supplier.specs.Laws.{IsSound, StepsKeepDuties, StepsStaySound}
 use Rattle.uss_law_book.proofs.Known.{legal_known}
-use Rattle.uss_law_book.proofs.Room.{covered, legal_books_keep_room}
-use Rattle.uss_law_supplier.proofs.Good.{Sound, IsRoomy, IsGood, may_step}
+use Rattle.uss_law_book.proofs.Room.{covered}
+use Rattle.uss_law_supplier.proofs.Good.{Sound, IsGood, may_step}
 use Rattle.uss_law_supplier.proofs.Replying.{sound_with}
 use Rattle.uss_law_supplier.proofs.Peering.{hears_it, fit_hearing}
 use Rattle.uss_law_supplier.proofs.Asking.{good_asked, good_cancelled}
@@ -93,19 +93,19 @@ notified_keeps s moment client note false d w =
     hearing_keeps s (by_pair note.flight note.pair) moment (Comes.Notified client note) _ d w (inr refl)
     (λ e. good_notified (with_values s (hearing (by_pair note.flight note.pair) s.values)) s.values.heard moment client note Says.Noted e refl (inl refl))
 
-keeps : (s : Standing) (moment : ℤ) (event : Event) → Sound s → IsEvent event → InTime moment → IfSome (stepped s moment event).entry (IsRoomy s.book) → Keeps s.owner s.book s.values moment event (stepped s moment event)
-keeps s moment (Comes.Ask ask) d w t r = good_keeps s s.values.heard moment (Comes.Ask ask) _ s.values d refl (inl refl) (good_asked s s.values.heard moment moment (Comes.Ask ask) ask d w t (λ book. refl) r)
-keeps s moment (Comes.Cancel flight number) d w t r =
-    good_keeps s s.values.heard moment (Comes.Cancel flight number) _ s.values d refl (inl refl) (good_cancelled s s.values.heard moment flight number d r)
-keeps s moment (Comes.Position p) d w t r = good_keeps s s.values.heard moment (Comes.Position p) _ s.values d refl (inl refl) (good_positioned s moment p d w t r)
-keeps s moment (Comes.Sweep skip) d w t r = good_keeps s s.values.heard moment (Comes.Sweep skip) _ s.values d refl (inl refl) (good_swept s moment skip d)
-keeps s moment (Comes.Dss call reply) d w t r = good_keeps s s.values.heard moment (Comes.Dss call reply) _ s.values d refl (inl refl) (good_replied s moment call reply d w r)
-keeps s moment (Comes.Peer call reply) d w t r =
+keeps : (s : Standing) (moment : ℤ) (event : Event) → Sound s → IsEvent event → InTime moment → Keeps s.owner s.book s.values moment event (stepped s moment event)
+keeps s moment (Comes.Ask ask) d w t = good_keeps s s.values.heard moment (Comes.Ask ask) _ s.values d refl (inl refl) (good_asked s s.values.heard moment moment (Comes.Ask ask) ask d w t (λ book. refl))
+keeps s moment (Comes.Cancel flight number) d w t =
+    good_keeps s s.values.heard moment (Comes.Cancel flight number) _ s.values d refl (inl refl) (good_cancelled s s.values.heard moment flight number d)
+keeps s moment (Comes.Position p) d w t = good_keeps s s.values.heard moment (Comes.Position p) _ s.values d refl (inl refl) (good_positioned s moment p d w t)
+keeps s moment (Comes.Sweep skip) d w t = good_keeps s s.values.heard moment (Comes.Sweep skip) _ s.values d refl (inl refl) (good_swept s moment skip d)
+keeps s moment (Comes.Dss call reply) d w t = good_keeps s s.values.heard moment (Comes.Dss call reply) _ s.values d refl (inl refl) (good_replied s moment call reply d w)
+keeps s moment (Comes.Peer call reply) d w t =
     hearing_keeps s (heard_by call reply) moment (Comes.Peer call reply) _ d w (hears_it s.values.heard call reply)
-    (λ e. good_replied_to_peer (with_values s (hearing (heard_by call reply) s.values)) s.values.heard moment call reply e (hears_it s.values.heard call reply) r)
-keeps s moment (Comes.Failed job) d w t r = good_keeps s s.values.heard moment (Comes.Failed job) _ s.values d refl (inl refl) (good_failed s moment job d)
-keeps s moment (Comes.Details client flight) d w t r = good_keeps s s.values.heard moment (Comes.Details client flight) _ s.values d refl (inl refl) (good_detailed s moment client flight d)
-keeps s moment (Comes.Notified client note) d w t r = notified_keeps s moment client note (is_of_another client note.pair) d w
+    (λ e. good_replied_to_peer (with_values s (hearing (heard_by call reply) s.values)) s.values.heard moment call reply e (hears_it s.values.heard call reply))
+keeps s moment (Comes.Failed job) d w t = good_keeps s s.values.heard moment (Comes.Failed job) _ s.values d refl (inl refl) (good_failed s moment job d)
+keeps s moment (Comes.Details client flight) d w t = good_keeps s s.values.heard moment (Comes.Details client flight) _ s.values d refl (inl refl) (good_detailed s moment client flight d)
+keeps s moment (Comes.Notified client note) d w t = notified_keeps s moment client note (is_of_another client note.pair) d w
 
 -- a moment is taken within the range of instants
 in_between : (a b m : ℤ) → a ≤ℤ b → InRange a b (int_max a (int_min m b))
@@ -115,13 +115,9 @@ clamped_in_time : (moment : ℤ) → InTime (clamped moment)
 unfolding clamped
 clamped_in_time moment = in_between (pos 946684800000000000) (pos 7258118400000000000) moment (omega arith)
 
-each_roomy : (book : List Entry) (x : Option Entry) → IsLegal book → IfSome x (IsRoomy book)
-each_roomy book None l = tt
-each_roomy book (Some e) l = record { room = legal_books_keep_room book e l }
-
 pub steps_keep_duties : StepsKeepDuties
 steps_keep_duties owner book values moment event d w =
-    (keeps (standing owner book values) (clamped moment) event (sound_of owner book values d) w (clamped_in_time moment) (each_roomy book _ d.legal)).may
+    (keeps (standing owner book values) (clamped moment) event (sound_of owner book values d) w (clamped_in_time moment)).may
 
 legal_then : (book : List Entry) (e : Option Entry) → IsLegal book → IfSome e (MayFollow book) → IsLegal (book_after book e)
 legal_then book None l m = l
@@ -133,7 +129,7 @@ owned_then book (Some e) owner o = owner_kept book (e ∷ []) owner o
 
 pub steps_stay_sound : StepsStaySound
 steps_stay_sound owner book values moment event d w =
-    let k = keeps (standing owner book values) (clamped moment) event (sound_of owner book values d) w (clamped_in_time moment) (each_roomy book _ d.legal) in
+    let k = keeps (standing owner book values) (clamped moment) event (sound_of owner book values d) w (clamped_in_time moment) in
     let t = supplier_step owner book values moment event in
     record { owned = owned_then book t.entry owner d.owned; legal = legal_then book t.entry d.legal k.may.acts.legal; fit = k.fit; heard = heard_then values.heard event t.values.heard d.heard w k.may.hears }
 

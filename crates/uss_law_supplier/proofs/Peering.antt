@@ -1,5 +1,5 @@
 -- That a supplier may do what the reply of another supplier comes to.
-use Rattle.std.proofs.Common.{ℕ, ℤ, ◌≤◌, ◌==◌, Bool, true, false, cond, ◌&&◌, List, [], ◌++◌, ◌≡◌, inl, inr, length, refl, ap, sym, subst, ◌∙◌, Option, Some, None, is_some, IfSome}
+use Rattle.std.proofs.Common.{ℕ, ℤ, ◌≤◌, ◌==◌, Bool, true, false, cond, ◌&&◌, List, [], ◌++◌, ◌≡◌, inl, inr, length, refl, ap, sym, subst, ◌∙◌, Option, Some, None, is_some}
 use Rattle.std.specs.Option.{option_and_then}
 use Rattle.std.proofs.lemmas.List.{append-nil}
 use Rattle.uss_intent.specs.Same.{same_text}
@@ -37,7 +37,7 @@ use Rattle.uss_law_supplier.specs.Fitting.{IsPhase, IsPeerAwaited, IsAwaited, Is
 use Rattle.uss_law_supplier.proofs.Waits.{round_own, round_awaited}
 use Rattle.uss_law_supplier.proofs.Onward.{open_is}
 use Rattle.uss_law_supplier.proofs.Fits.{fit_in_round, heard_in_round}
-use Rattle.uss_law_supplier.proofs.Good.{Sound, IsRoomy, IsGood}
+use Rattle.uss_law_supplier.proofs.Good.{Sound, IsGood}
 use Rattle.uss_law_supplier.proofs.Jobs.{IsAt, good_stopping}
 use Rattle.uss_law_supplier.proofs.Chosen.{good_choosing}
 use Rattle.uss_law_supplier.proofs.Resuming.{good_resuming}
@@ -99,35 +99,32 @@ round_waits s o _ _ = refl
 -- what the job does then
 
 seen : (s : Standing) (heard : List News) (moment : ℤ) (o : Opening) (event : Event) (call : PeerCall) (reply : PeerReply) (x : Option Reference) → IsAt s o → IsSeeing s o → HearsOnly heard event s.values.heard
-    → job_named event s.book ≡ Some o → next_unheard s.owner s.values.heard (round_of o.job s.values) ≡ x → IfSome (carry_out_peer s o call reply (next_or_choice (is_some x))).entry (IsRoomy s.book)
-    → IsGood s heard moment event (carry_out_peer s o call reply (next_or_choice (is_some x)))
-seen s heard moment o event call reply None a p hears named e r = good_choosing s heard moment event o a p.phase p.few hears named r
-seen s heard moment o event call reply (Some x) a p hears named e r = subst (λ y. IsGood s heard moment event (looking_at s o y)) (sym e) (good_looking_at s heard moment event o x a p)
+    → job_named event s.book ≡ Some o → next_unheard s.owner s.values.heard (round_of o.job s.values) ≡ x → IsGood s heard moment event (carry_out_peer s o call reply (next_or_choice (is_some x)))
+seen s heard moment o event call reply None a p hears named e = good_choosing s heard moment event o a p.phase p.few hears named
+seen s heard moment o event call reply (Some x) a p hears named e = subst (λ y. IsGood s heard moment event (looking_at s o y)) (sym e) (good_looking_at s heard moment event o x a p)
 
 acted : Standing → Opening → PeerCall → PeerReply → Turn
 acted s o call reply = carry_out_peer s o call reply (on_heard (view_of s o) Waits.Details (heard_of_peer s o reply))
 
 by_reply_of : (s : Standing) (heard : List News) (moment : ℤ) (o : Opening) (job flight : ℕ) (manager base : List ℕ) (reply : PeerReply) → IsAt s o → o.job ≡ job → IsSeeing s o
     → HearsOnly heard (Comes.Peer (Calls.Details job flight manager base) reply) s.values.heard → opening_of job s.book ≡ Some o → peer_fits (Calls.Details job flight manager base) reply ≡ true
-    → IfSome (acted s o (Calls.Details job flight manager base) reply).entry (IsRoomy s.book)
     → IsGood s heard moment (Comes.Peer (Calls.Details job flight manager base) reply) (acted s o (Calls.Details job flight manager base) reply)
 unfolding acted
-by_reply_of s heard moment o job flight manager base (Peers.Served pair) a j p hears named fit room =
-    seen s heard moment o (Comes.Peer (Calls.Details job flight manager base) (Peers.Served pair)) (Calls.Details job flight manager base) (Peers.Served pair) (next_unheard s.owner s.values.heard (round_of o.job s.values)) a p hears named refl room
-by_reply_of s heard moment o job flight manager base Peers.Gone a j p hears named fit room =
-    seen s heard moment o (Comes.Peer (Calls.Details job flight manager base) Peers.Gone) (Calls.Details job flight manager base) Peers.Gone (next_unheard s.owner s.values.heard (round_of o.job s.values)) a p hears named refl room
-by_reply_of s heard moment o job flight manager base Peers.Noted a j p hears named fit room = cc
-by_reply_of s heard moment o job flight manager base (Peers.Status status) a j p hears named fit room =
+by_reply_of s heard moment o job flight manager base (Peers.Served pair) a j p hears named fit =
+    seen s heard moment o (Comes.Peer (Calls.Details job flight manager base) (Peers.Served pair)) (Calls.Details job flight manager base) (Peers.Served pair) (next_unheard s.owner s.values.heard (round_of o.job s.values)) a p hears named refl
+by_reply_of s heard moment o job flight manager base Peers.Gone a j p hears named fit =
+    seen s heard moment o (Comes.Peer (Calls.Details job flight manager base) Peers.Gone) (Calls.Details job flight manager base) Peers.Gone (next_unheard s.owner s.values.heard (round_of o.job s.values)) a p hears named refl
+by_reply_of s heard moment o job flight manager base Peers.Noted a j p hears named fit = cc
+by_reply_of s heard moment o job flight manager base (Peers.Status status) a j p hears named fit =
     good_stopping s heard moment (Comes.Peer (Calls.Details job flight manager base) (Peers.Status status)) o (Answers.PeerRefused manager status) a refl
     (record { job = job; flight = flight; base = base; its_call = refl; unfinished = subst (λ k. is_open k s.book ≡ true) j (open_is s.book o a.unfinished); replied = refl })
 
 good_by_peer : (s : Standing) (heard : List News) (moment : ℤ) (o : Opening) (job flight : ℕ) (manager base : List ℕ) (reply : PeerReply) → IsAt s o → opening_of job s.book ≡ Some o
     → HearsOnly heard (Comes.Peer (Calls.Details job flight manager base) reply) s.values.heard → peer_fits (Calls.Details job flight manager base) reply ≡ true
     → awaited_of o.job s.values ≡ Some (Goes.Peer (Calls.Details job flight manager base))
-    → IfSome (acting_on_peer (with_values s (round_by_peer s o (Calls.Details job flight manager base) reply)) o (Calls.Details job flight manager base) reply).entry (IsRoomy s.book)
     → IsGood s heard moment (Comes.Peer (Calls.Details job flight manager base) reply) (acting_on_peer (with_values s (round_by_peer s o (Calls.Details job flight manager base) reply)) o (Calls.Details job flight manager base) reply)
 unfolding view_of acted
-good_by_peer s heard moment o job flight manager base reply a named hears fit waits room =
+good_by_peer s heard moment o job flight manager base reply a named hears fit waits =
     let call = Calls.Details job flight manager base in
     let v = round_by_peer s o call reply in
     let t = with_values s v in
@@ -140,8 +137,7 @@ good_by_peer s heard moment o job flight manager base reply a named hears fit wa
     let acts : acted t o call reply ≡ acting_on_peer t o call reply = ap (λ x. carry_out_peer t o call reply (when_awaited (view_of t o) (heard_of_peer t o reply) x)) (sym kind) in
     moved_good s v heard moment (Comes.Peer call reply) (acting_on_peer t o call reply) (round_heard s o call reply)
     (subst (λ (x : Turn). IsGood t heard moment (Comes.Peer call reply) x) acts
-    (by_reply_of t heard moment o job flight manager base reply here (opening_has s.book job o named).1 p (subst (HearsOnly heard (Comes.Peer call reply)) (sym (round_heard s o call reply)) hears) named fit
-    (subst (λ (x : Turn). IfSome x.entry (IsRoomy s.book)) (sym acts) room)))
+    (by_reply_of t heard moment o job flight manager base reply here (opening_has s.book job o named).1 p (subst (HearsOnly heard (Comes.Peer call reply)) (sym (round_heard s o call reply)) hears) named fit))
 
 no_details : (s : Standing) (o : Opening) (job place : ℕ) (base : List ℕ) (note : Note) → IsAt s o → awaited_of o.job s.values ≡ Some (Goes.Peer (Calls.Notify job place base note)) → ⊥
 no_details s o job place base note a w =
@@ -150,13 +146,12 @@ no_details s o job place base note a w =
     cc
 
 pub good_open_by_peer : (s : Standing) (heard : List News) (moment : ℤ) (o : Opening) (call : PeerCall) (reply : PeerReply) → IsAt s o → opening_of (job_of_call call) s.book ≡ Some o
-    → HearsOnly heard (Comes.Peer call reply) s.values.heard → (b : Bool) → (peer_fits call reply && waits_for_peer s o call) ≡ b → IfSome (open_by_peer s o call reply b).entry (IsRoomy s.book)
-    → IsGood s heard moment (Comes.Peer call reply) (open_by_peer s o call reply b)
-good_open_by_peer s heard moment o call reply a named hears false e room = good_resuming s heard moment (Comes.Peer call reply) o a room
-good_open_by_peer s heard moment o (Calls.Details job flight manager base) reply a named hears true e room =
+    → HearsOnly heard (Comes.Peer call reply) s.values.heard → (b : Bool) → (peer_fits call reply && waits_for_peer s o call) ≡ b → IsGood s heard moment (Comes.Peer call reply) (open_by_peer s o call reply b)
+good_open_by_peer s heard moment o call reply a named hears false e = good_resuming s heard moment (Comes.Peer call reply) o a
+good_open_by_peer s heard moment o (Calls.Details job flight manager base) reply a named hears true e =
     let p = both (peer_fits (Calls.Details job flight manager base) reply) (waits_for_peer s o (Calls.Details job flight manager base)) e in
-    good_by_peer s heard moment o job flight manager base reply a named hears p.0 (awaited_peer (Calls.Details job flight manager base) (awaited_of o.job s.values) p.1) room
-good_open_by_peer s heard moment o (Calls.Notify job place base note) reply a named hears true e room =
+    good_by_peer s heard moment o job flight manager base reply a named hears p.0 (awaited_peer (Calls.Details job flight manager base) (awaited_of o.job s.values) p.1)
+good_open_by_peer s heard moment o (Calls.Notify job place base note) reply a named hears true e =
     let p = both (peer_fits (Calls.Notify job place base note) reply) (waits_for_peer s o (Calls.Notify job place base note)) e in
     absurd (no_details s o job place base note a (awaited_peer (Calls.Notify job place base note) (awaited_of o.job s.values) p.1))
 

@@ -1,5 +1,5 @@
 -- That a supplier may do what a reply comes to.
-use Rattle.std.proofs.Common.{ℤ, ◌==◌, Bool, true, false, ◌&&◌, List, [], ◌≡◌, refl, ap, sym, subst, ◌∙◌, Option, Some, None, IfSome}
+use Rattle.std.proofs.Common.{ℤ, ◌==◌, Bool, true, false, ◌&&◌, List, [], ◌≡◌, refl, ap, sym, subst, ◌∙◌, Option, Some, None}
 use Rattle.std.specs.Option.{option_and_then}
 use Rattle.uss_intent.specs.Same.{same_ask}
 use Rattle.uss_intent.specs.SameLaws.{ask_is_same}
@@ -32,7 +32,7 @@ use Rattle.uss_law_supplier.specs.Fitting.{IsPhase, IsDssAwaited, IsAwaited, IsF
 use Rattle.uss_law_supplier.proofs.Waits.{round_own, round_awaited}
 use Rattle.uss_law_supplier.proofs.Onward.{call_is_due}
 use Rattle.uss_law_supplier.proofs.Fits.{fit_in_round, heard_in_round}
-use Rattle.uss_law_supplier.proofs.Good.{Sound, IsRoomy, IsGood}
+use Rattle.uss_law_supplier.proofs.Good.{Sound, IsGood}
 use Rattle.uss_law_supplier.proofs.Jobs.{IsAt}
 use Rattle.uss_law_supplier.proofs.Resuming.{good_resuming}
 use Rattle.uss_law_supplier.proofs.Acting.{IsReplied, acted, good_acting}
@@ -94,10 +94,9 @@ round_found s o _ rs e = cc
 
 -- a reply that is acted on
 good_by_dss : (s : Standing) (heard : List News) (moment : ℤ) (o : Opening) (call : DssCall) (reply : DssReply) → IsAt s o → opening_of call.job s.book ≡ Some o → HearsOnly heard (Comes.Dss call reply) s.values.heard
-    → fits call.ask reply ≡ true → IsReply reply → awaited_of o.job s.values ≡ Some (Goes.Dss call) → IfSome (acting_on_dss (with_values s (round_by_dss s o reply)) o reply).entry (IsRoomy s.book)
-    → IsGood s heard moment (Comes.Dss call reply) (acting_on_dss (with_values s (round_by_dss s o reply)) o reply)
+    → fits call.ask reply ≡ true → IsReply reply → awaited_of o.job s.values ≡ Some (Goes.Dss call) → IsGood s heard moment (Comes.Dss call reply) (acting_on_dss (with_values s (round_by_dss s o reply)) o reply)
 unfolding view_of
-good_by_dss s heard moment o call reply a named hears fit typed waits room =
+good_by_dss s heard moment o call reply a named hears fit typed waits =
     let v = round_by_dss s o reply in
     let t = with_values s v in
     let here = at_with s v o a (round_fit s o call reply a.sound waits) (round_heard s o reply) in
@@ -121,12 +120,11 @@ good_by_dss s heard moment o call reply a named hears fit typed waits room =
     let acts : acted t o reply w.kind ≡ acting_on_dss t o reply = ap (λ x. carry_out t o reply (when_awaited (view_of t o) (heard_of_dss t o reply) x)) (sym kind) in
     moved_good s v heard moment (Comes.Dss call reply) (acting_on_dss t o reply) (round_heard s o reply)
     (subst (λ (x : Turn). IsGood t heard moment (Comes.Dss call reply) x) acts
-    (good_acting t heard moment o call.job call.ask reply w.kind w.is_of_kind replied (subst (λ (x : Turn). IfSome x.entry (IsRoomy s.book)) (sym acts) room)))
+    (good_acting t heard moment o call.job call.ask reply w.kind w.is_of_kind replied))
 
 pub good_open_by_dss : (s : Standing) (heard : List News) (moment : ℤ) (o : Opening) (call : DssCall) (reply : DssReply) → IsAt s o → opening_of call.job s.book ≡ Some o
-    → HearsOnly heard (Comes.Dss call reply) s.values.heard → IsReply reply → (b : Bool) → (fits call.ask reply && waits_for_dss s o call) ≡ b → IfSome (open_by_dss s o reply b).entry (IsRoomy s.book)
-    → IsGood s heard moment (Comes.Dss call reply) (open_by_dss s o reply b)
-good_open_by_dss s heard moment o call reply a named hears typed true e room =
+    → HearsOnly heard (Comes.Dss call reply) s.values.heard → IsReply reply → (b : Bool) → (fits call.ask reply && waits_for_dss s o call) ≡ b → IsGood s heard moment (Comes.Dss call reply) (open_by_dss s o reply b)
+good_open_by_dss s heard moment o call reply a named hears typed true e =
     let p = both (fits call.ask reply) (waits_for_dss s o call) e in
-    good_by_dss s heard moment o call reply a named hears p.0 typed (awaited_dss call (awaited_of o.job s.values) p.1) room
-good_open_by_dss s heard moment o call reply a named hears typed false e room = good_resuming s heard moment (Comes.Dss call reply) o a room
+    good_by_dss s heard moment o call reply a named hears p.0 typed (awaited_dss call (awaited_of o.job s.values) p.1)
+good_open_by_dss s heard moment o call reply a named hears typed false e = good_resuming s heard moment (Comes.Dss call reply) o a

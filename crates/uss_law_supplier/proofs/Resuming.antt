@@ -1,5 +1,5 @@
 -- That a job may go on by its book, and make the call again that it waits for.
-use Rattle.std.proofs.Common.{ℕ, ℤ, ◌≤◌, ◌<◌, Bool, true, false, cond, nat_lt, List, [], ◌∷◌, ◌≡◌, inr, length, refl, ap, sym, subst, ◌∙◌, arith, Option, Some, None, is_some, IfSome}
+use Rattle.std.proofs.Common.{ℕ, ℤ, ◌≤◌, ◌<◌, Bool, true, false, cond, nat_lt, List, [], ◌∷◌, ◌≡◌, inr, length, refl, ap, sym, subst, ◌∙◌, arith, Option, Some, None, is_some}
 use Rattle.uss_intent.specs.declared.records.State.{State}
 use Rattle.uss_event.specs.declared.details.Proposal.{Proposal}
 use Rattle.uss_event.specs.declared.asks.Wish.{Wish}
@@ -28,7 +28,7 @@ use Rattle.uss_law_supplier.specs.Fitting.{IsLooking, IsAwaited}
 use Rattle.uss_law_book.proofs.Known.{IsFirm}
 use Rattle.uss_law_supplier.proofs.Onward as Onward
 use Rattle.uss_law_supplier.proofs.Onward.{IsDssDue, call_is_due}
-use Rattle.uss_law_supplier.proofs.Good.{IsRoomy, IsGood, good_onward, one_sent}
+use Rattle.uss_law_supplier.proofs.Good.{IsGood, good_onward, one_sent}
 use Rattle.uss_law_supplier.proofs.Jobs.{IsAt, good_asking}
 use Rattle.uss_law_supplier.proofs.Entering.{put_with, good_attempting}
 
@@ -49,8 +49,8 @@ blind_of wish to priority rounds proposals w h = go (is_strategic to) (sym (ap k
     go false e = (refl, refl)
 
 pub good_blind : (s : Standing) (heard : List News) (moment : ℤ) (event : Event) (o : Opening) → IsAt s o → IsLooking s.book o → keeps_key o.ask.wish ≡ false
-    → IfSome (attempting s o 0 []).entry (IsRoomy s.book) → IsGood s heard moment event (attempting s o 0 [])
-good_blind s heard moment event o a p k room =
+    → IsGood s heard moment event (attempting s o 0 [])
+good_blind s heard moment event o a p k =
     let w = put_with o.ask.wish p.put in
     let plans : ArePlans w.0 w.1 w.2 w.3 = subst IsFirm w.4 (a.sound.known.firm o a.has) in
     let some = plans.some_proposals in
@@ -70,7 +70,6 @@ good_blind s heard moment event o a p k room =
     })
     (λ x f strategic opening opened ovn h. absurd h)
     (All-nil IsOvn)
-    room
 
 none_of : (n : ℕ) → nat_lt 0 n ≡ false → n ≡ 0
 none_of n h = let a = not_less 0 n h in omega (arith, a)
@@ -79,39 +78,35 @@ some_rounds : (wish : Wish) → is_put wish ≡ true → IsFirm wish → 1 ≤ r
 some_rounds (Put to priority rounds proposals) h f = f.some_rounds
 some_rounds End h f = cc
 
-pub good_going_on : (s : Standing) (heard : List News) (moment : ℤ) (event : Event) (o : Opening) → IsAt s o → IfSome (going_on s o).entry (IsRoomy s.book) → IsGood s heard moment event (going_on s o)
+pub good_going_on : (s : Standing) (heard : List News) (moment : ℤ) (event : Event) (o : Opening) → IsAt s o → IsGood s heard moment event (going_on s o)
 unfolding view_of
-good_going_on s heard moment event o a room = at_end (is_end o.ask.wish) refl room
+good_going_on s heard moment event o a = at_end (is_end o.ask.wish) refl
   where
-    at_key : (b : Bool) → keeps_key o.ask.wish ≡ b → IsLooking s.book o → IfSome (carry_on s o (with_ticket b)).entry (IsRoomy s.book) → IsGood s heard moment event (carry_on s o (with_ticket b))
-    at_key true e p r = good_asking s heard moment event o Waits.Query a p (λ q. cc)
-    at_key false e p r = good_blind s heard moment event o a p e r
+    at_key : (b : Bool) → keeps_key o.ask.wish ≡ b → IsLooking s.book o → IsGood s heard moment event (carry_on s o (with_ticket b))
+    at_key true e p = good_asking s heard moment event o Waits.Query a p (λ q. cc)
+    at_key false e p = good_blind s heard moment event o a p e
 
     at_ticket : (b : Bool) → is_ticket_open o.job s.book ≡ b → is_put o.ask.wish ≡ true → decision_of o.job s.book ≡ None → length (trials_of o.job s.book) ≡ 0
-        → IfSome (carry_on s o (cond b (with_ticket (keeps_key o.ask.wish)) (Duties.Call Waits.TicketPut))).entry (IsRoomy s.book)
         → IsGood s heard moment event (carry_on s o (cond b (with_ticket (keeps_key o.ask.wish)) (Duties.Call Waits.TicketPut)))
-    at_ticket true e put undecided none r =
+    at_ticket true e put undecided none =
         let one = some_rounds o.ask.wish put (a.sound.known.firm o a.has) in
-        at_key (keeps_key o.ask.wish) refl (record { put = put; ticket = e; undecided = undecided; round = omega (arith, one, none) }) r
-    at_ticket false e put undecided none r = good_asking s heard moment event o Waits.TicketPut a (put, e) (λ q. cc)
+        at_key (keeps_key o.ask.wish) refl (record { put = put; ticket = e; undecided = undecided; round = omega (arith, one, none) })
+    at_ticket false e put undecided none = good_asking s heard moment event o Waits.TicketPut a (put, e) (λ q. cc)
 
     at_tried : (b : Bool) → nat_lt 0 (length (trials_of o.job s.book)) ≡ b → is_put o.ask.wish ≡ true → decision_of o.job s.book ≡ None
-        → IfSome (carry_on s o (cond b (Duties.Call Waits.Put) (cond (is_ticket_open o.job s.book) (with_ticket (keeps_key o.ask.wish)) (Duties.Call Waits.TicketPut)))).entry (IsRoomy s.book)
         → IsGood s heard moment event (carry_on s o (cond b (Duties.Call Waits.Put) (cond (is_ticket_open o.job s.book) (with_ticket (keeps_key o.ask.wish)) (Duties.Call Waits.TicketPut))))
-    at_tried true e put undecided r = good_asking s heard moment event o Waits.Put a (record { put = put; undecided = undecided; tried = less_is 0 (length (trials_of o.job s.book)) e }) (λ q. cc)
-    at_tried false e put undecided r = at_ticket (is_ticket_open o.job s.book) refl put undecided (none_of (length (trials_of o.job s.book)) e) r
+    at_tried true e put undecided = good_asking s heard moment event o Waits.Put a (record { put = put; undecided = undecided; tried = less_is 0 (length (trials_of o.job s.book)) e }) (λ q. cc)
+    at_tried false e put undecided = at_ticket (is_ticket_open o.job s.book) refl put undecided (none_of (length (trials_of o.job s.book)) e)
 
     at_decided : (b : Bool) → is_some (decision_of o.job s.book) ≡ b → is_put o.ask.wish ≡ true
-        → IfSome (carry_on s o (cond b (Duties.Call Waits.TicketRemove) (cond (nat_lt 0 (length (trials_of o.job s.book))) (Duties.Call Waits.Put) (cond (is_ticket_open o.job s.book) (with_ticket (keeps_key o.ask.wish)) (Duties.Call Waits.TicketPut))))).entry (IsRoomy s.book)
         → IsGood s heard moment event (carry_on s o (cond b (Duties.Call Waits.TicketRemove) (cond (nat_lt 0 (length (trials_of o.job s.book))) (Duties.Call Waits.Put) (cond (is_ticket_open o.job s.book) (with_ticket (keeps_key o.ask.wish)) (Duties.Call Waits.TicketPut)))))
-    at_decided true e put r = good_asking s heard moment event o Waits.TicketRemove a (put, e) (λ q. cc)
-    at_decided false e put r = at_tried (nat_lt 0 (length (trials_of o.job s.book))) refl put (none_is (decision_of o.job s.book) e) r
+    at_decided true e put = good_asking s heard moment event o Waits.TicketRemove a (put, e) (λ q. cc)
+    at_decided false e put = at_tried (nat_lt 0 (length (trials_of o.job s.book))) refl put (none_is (decision_of o.job s.book) e)
 
     at_end : (b : Bool) → is_end o.ask.wish ≡ b
-        → IfSome (carry_on s o (cond b (Duties.Call Waits.Remove) (cond (is_some (decision_of o.job s.book)) (Duties.Call Waits.TicketRemove) (cond (nat_lt 0 (length (trials_of o.job s.book))) (Duties.Call Waits.Put) (cond (is_ticket_open o.job s.book) (with_ticket (keeps_key o.ask.wish)) (Duties.Call Waits.TicketPut)))))).entry (IsRoomy s.book)
         → IsGood s heard moment event (carry_on s o (cond b (Duties.Call Waits.Remove) (cond (is_some (decision_of o.job s.book)) (Duties.Call Waits.TicketRemove) (cond (nat_lt 0 (length (trials_of o.job s.book))) (Duties.Call Waits.Put) (cond (is_ticket_open o.job s.book) (with_ticket (keeps_key o.ask.wish)) (Duties.Call Waits.TicketPut))))))
-    at_end true e r = good_asking s heard moment event o Waits.Remove a (is_an_end o.ask.wish e) (λ q. cc)
-    at_end false e r = at_decided (is_some (decision_of o.job s.book)) refl (not_end o.ask.wish e) r
+    at_end true e = good_asking s heard moment event o Waits.Remove a (is_an_end o.ask.wish e) (λ q. cc)
+    at_end false e = at_decided (is_some (decision_of o.job s.book)) refl (not_end o.ask.wish e)
 
 -- the call that a job waits for is due
 pub awaited_due : (s : Standing) (o : Opening) (call : Outgoing) → IsAt s o → awaited_of o.job s.values ≡ Some call → Onward.IsDue s.owner s.book call
@@ -124,12 +119,12 @@ awaited_due s o call a e = go call (a.sound.fit o.job call e)
         subst (λ j. IsDssDue s.owner s.book j call.ask) (h.1 ∙ sym w.its_job) d
     go (Goes.Peer call) w = subst (NotesAreHeld s.book) (sym w.is) tt
 
-pub good_resuming : (s : Standing) (heard : List News) (moment : ℤ) (event : Event) (o : Opening) → IsAt s o → IfSome (resuming s o).entry (IsRoomy s.book) → IsGood s heard moment event (resuming s o)
-good_resuming s heard moment event o a room = go (awaited_of o.job s.values) refl room
+pub good_resuming : (s : Standing) (heard : List News) (moment : ℤ) (event : Event) (o : Opening) → IsAt s o → IsGood s heard moment event (resuming s o)
+good_resuming s heard moment event o a = go (awaited_of o.job s.values) refl
   where
-    go : (x : Option Outgoing) → awaited_of o.job s.values ≡ x → IfSome (resuming_by s o x).entry (IsRoomy s.book) → IsGood s heard moment event (resuming_by s o x)
-    go None e r = good_going_on s heard moment event o a r
-    go (Some call) e r =
+    go : (x : Option Outgoing) → awaited_of o.job s.values ≡ x → IsGood s heard moment event (resuming_by s o x)
+    go None e = good_going_on s heard moment event o a
+    go (Some call) e =
         good_onward s heard moment event s.values (call ∷ []) Says.Nothing
         (record { sends = λ x h. one_sent (Onward.IsDue s.owner s.book) call x (awaited_due s o call a e) h; pair = tt; final = tt; fit = a.sound.fit; heard_is = refl; goes = inr refl })
         tt
