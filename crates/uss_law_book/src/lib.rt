@@ -16,7 +16,7 @@ ghost use Rattle.uss_law_book.specs.Lists.{Opening, Trial, Holding, openings, tr
 ghost use Rattle.uss_law_book.specs.Readings.{opening_of, trial_of, is_closed, open_job_of, holding, base_of};
 ghost use Rattle.uss_law_book.specs.Attempts.{Attempted, attempt_of, held};
 ghost use Rattle.uss_law_book.specs.Coding.{record_length, journal_length};
-ghost use Rattle.uss_law_book.specs.Reserve.{journal_limit, need, ReserveCovers};
+ghost use Rattle.uss_law_book.specs.Reserve.{journal_limit, job_room, need, ReserveCovers};
 ghost use Rattle.uss_law_book.specs.Legal.{IsLegal, MayFollow};
 ghost use Rattle.uss_law_book.specs.Room.{IsSpared, IsNext, LegalBooksKeepRoom};
 ghost use Rattle.uss_law_book.specs.Orderly.{IsOrderly, IsHeldOf};
@@ -73,5 +73,5 @@ pub fn legal_books_keep_room()
     ensures room { LegalBooksKeepRoom }
     ensures exact { (book : List Entry) (e : Entry) → IsLegal book → (MayFollow book e ↔ IsNext book e) }
     ensures beside_all { (book : List Entry) (job : ℕ) (moment : ℤ) (ask : FlightAsk)
-        → journal_length book + need book + 8388608 + record_length (Opened job moment ask) ≤ journal_limit → IsSpared book (Opened job moment ask) }
+        → journal_length book + need book + job_room + record_length (Opened job moment ask) ≤ journal_limit → IsSpared book (Opened job moment ask) }
 {}
