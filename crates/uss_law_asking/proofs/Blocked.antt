@@ -1,5 +1,5 @@
 -- Which steps come to a conflict: those whose choice is blocked, and those that end as was decided before.
-use Rattle.std.proofs.Common.{ℕ, ◌≡◌, ◌⊎◌, inl, inr, Bool, true, false, cond, nat_lt, List, [], ◌∷◌, slice_get, length, map, refl, subst, Option, Some, None}
+use Rattle.std.proofs.Common.{ℕ, ◌≡◌, ◌⊎◌, inl, inr, Bool, true, false, cond, nat_lt, List, [], ◌∷◌, slice_get, length, refl, subst, Option, Some, None}
 use Rattle.uss_vol4.specs.Volume.{Volume4D}
 use Rattle.uss_intent.specs.Refusals.{refusal_number}
 use Rattle.uss_intent.specs.declared.records.State.{State}
@@ -20,7 +20,6 @@ use Rattle.uss_event.specs.declared.entries.Entry.{Entry}
 use Rattle.uss_event.specs.declared.entries.Entry.TheVariants as Enters
 use Rattle.uss_event.specs.declared.entries.Ending.{Ending}
 use Rattle.uss_event.specs.declared.entries.Ending.TheVariants as Ends
-use Rattle.uss_event.specs.declared.calls.DssCall.{DssCall}
 use Rattle.uss_event.specs.declared.calls.PeerCall.{PeerCall}
 use Rattle.uss_event.specs.declared.calls.PeerCall.TheVariants as Calls
 use Rattle.uss_event.specs.declared.calls.PeerReply.{PeerReply}
@@ -44,8 +43,7 @@ use Rattle.uss_law_supplier.specs.Table.{by_book, next_or_choice, on_found, on_g
 use Rattle.uss_law_supplier.specs.Calls.{call_of, kind_of_ask}
 use Rattle.uss_law_supplier.specs.Turns.{Standing, Turn}
 use Rattle.uss_law_supplier.specs.Airspace.{next_unheard, is_left, choice_of, pairs_in}
-use Rattle.uss_law_supplier.specs.Jobs.{keeps_key, view_of, heard_of_dss, heard_of_peer, owns_tag, making, asking, holding_as, deciding, giving_up_after, giving_up, ending_as, closing, looking_at, looking, blocked_by, choosing_by, choosing, call_made, carry_on, resuming_by, resuming, carry_out, carry_out_peer}
-use Rattle.uss_law_asking.specs.Exchange.Exchanged.{OfDss}
+use Rattle.uss_law_supplier.specs.Jobs.{keeps_key, view_of, heard_of_dss, heard_of_peer, owns_tag, making, asking, holding_as, giving_up_after, giving_up, ending_as, closing, looking_at, looking, blocked_by, choosing_by, choosing, call_made, carry_on, resuming_by, resuming, carry_out, carry_out_peer}
 use Rattle.uss_law_asking.specs.Causes.{IsBlockedBy}
 
 -- the entry says that a plan is in conflict

@@ -1,5 +1,5 @@
 -- That Conflict names the pair by which a choice of the exchange was blocked.
-use Rattle.std.proofs.Common.{ℕ, ℤ, ◌+◌, ◌≤◌, ◌==◌, ◌≡◌, ◌⊎◌, inl, inr, Bool, true, false, cond, List, [], ◌∷◌, ◌++◌, length, max, refl, ap, sym, subst, ◌∙◌, arith, Option, Some, None, is_some}
+use Rattle.std.proofs.Common.{ℕ, ℤ, ◌+◌, ◌≤◌, ◌==◌, ◌≡◌, ◌⊎◌, inl, inr, Bool, true, false, List, [], ◌∷◌, ◌++◌, length, max, refl, ap, sym, subst, ◌∙◌, arith, Option, Some, None}
 use Rattle.std.specs.List.{find}
 use Rattle.std.specs.Option.{option_or}
 use Rattle.std.proofs.lemmas.List.{append-nil, append_assoc}
@@ -13,39 +13,37 @@ use Rattle.uss_event.specs.declared.entries.Ending.{Ending}
 use Rattle.uss_event.specs.declared.entries.Ending.TheVariants as Ends
 use Rattle.uss_event.specs.declared.calls.PeerCall.TheVariants as Calls
 use Rattle.uss_event.specs.declared.events.Answer.TheVariants as Answers
-use Rattle.uss_event.specs.declared.events.Said.{Said}
 use Rattle.uss_event.specs.declared.events.Said.TheVariants as Says
 use Rattle.uss_event.specs.declared.events.Event.{Event}
 use Rattle.uss_event.specs.declared.events.Event.TheVariants as Comes
 use Rattle.uss_law_dss.proofs.Tests.{equal_number, not_both, some_same}
-use Rattle.uss_law_book.specs.Lists.{Opening, Trial, Closing, decisions, endings}
+use Rattle.uss_law_book.specs.Lists.{Opening, Closing, decisions, endings}
 use Rattle.uss_law_book.specs.Legal.{IsDue, MayFollow, MayAllFollow, IsLegal, EndsWish}
-use Rattle.uss_law_book.specs.Orderly.{IsOrderly}
 use Rattle.uss_law_book.specs.Readings.{is_put, opening_of, is_ticket_open, is_closed, open_job_of, rounds_of, trials_of, decision_of, ending_of}
 use Rattle.uss_law_book.proofs.Entries.{endings_append}
 use Rattle.uss_law_book.proofs.Finds.{find_kept}
 use Rattle.uss_law_book.proofs.Kept.{opening_has}
 use Rattle.uss_law_book.proofs.Others.{decisions_append}
 use Rattle.uss_law_book.proofs.Known.{Known, legal_known, decided_tried, decided_ticketed, ticket_puts}
-use Rattle.uss_law_book.proofs.EachOrderly.{legal_rest, legal_longer, legal_beginning}
+use Rattle.uss_law_book.proofs.EachOrderly.{legal_rest, legal_longer}
 use Rattle.uss_law_duty.specs.Duties.{book_after, clamped}
 use Rattle.uss_law_duty.specs.Answers.{flight_of, by_end, job_named}
 use Rattle.uss_law_supplier.specs.Turns.{Standing, Turn}
 use Rattle.uss_law_supplier.specs.Typed.{IsEvent}
 use Rattle.uss_law_asking.specs.Exchange.{Exchanged, call_in, event_in, turn_of, stands_then, stands_after, IsBegun, AllFit, AllTyped, most_found, found_before}
 use Rattle.uss_law_asking.specs.Exchange.Exchanged.{OfDss, OfPeer}
-use Rattle.uss_law_asking.specs.Causes.{IsCarriedOut, outcome, book_then, taken_in, IsBlockedBy, AtSomeStep, NamesThePair, ConflictNamesThePair}
+use Rattle.uss_law_asking.specs.Causes.{IsCarriedOut, outcome, book_then, taken_in, IsBlockedBy, AtSomeStep, ConflictNamesThePair}
 use Rattle.uss_law_asking.proofs.Budget.{cost, IsWaiting}
 use Rattle.uss_law_asking.proofs.Bounded.{steps, first_fits, first_few}
 use Rattle.uss_law_asking.proofs.Ends.{none_done}
 use Rattle.uss_law_asking.proofs.Blocked.{is_conflict, is_in_conflict, ByChoice, Conflicts, conflicts_by_peer, conflicts_by_dss}
 use Rattle.uss_law_asking.proofs.Blocked.Conflicts.{Free, Chooses, Keeps}
-use Rattle.uss_law_asking.proofs.First.{OfJob, FirstStep, named_end, first_step}
+use Rattle.uss_law_asking.proofs.First.{FirstStep, named_end, first_step}
 use Rattle.uss_law_asking.proofs.Outcomes.{dss_turn, peer_turn, refuses_none, steady_none, most}
 use Rattle.uss_law_asking.proofs.Caused.{none_some, refused_not}
 use Rattle.uss_law_asking.proofs.Final.{ends_are_done}
 use Rattle.uss_law_asking.proofs.Sound.{IsSoundAt, waits_for, sound_then}
-use Rattle.uss_law_asking.proofs.Stale.{new_ending, new_decision, decision_kept, decision_kept_after, decision_end}
+use Rattle.uss_law_asking.proofs.Stale.{new_ending, new_decision, decision_kept_after, decision_end}
 
 -- a legal book ends a job as that decided, if it did
 

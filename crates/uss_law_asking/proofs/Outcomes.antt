@@ -37,10 +37,9 @@ use Rattle.uss_law_supplier.specs.Values.{awaited_of, progress_of}
 use Rattle.uss_law_supplier.specs.Table.{on_heard, when_awaited}
 use Rattle.uss_law_supplier.specs.Calls.{kind_of, is_it}
 use Rattle.uss_law_supplier.specs.Turns.{Standing, Turn, said_of}
-use Rattle.uss_law_supplier.specs.Jobs.{view_of, heard_of_dss, heard_of_peer, owns_tag, round_by_dss, round_by_peer, with_values, carry_out, carry_out_peer, open_by_peer}
+use Rattle.uss_law_supplier.specs.Jobs.{view_of, heard_of_dss, heard_of_peer, owns_tag, round_by_dss, with_values, carry_out, carry_out_peer, open_by_peer}
 use Rattle.uss_law_supplier.specs.Replies.{of_job_by_peer, replied_to_peer, hearing_it}
 use Rattle.uss_law_supplier.specs.Asks.{refusing}
-use Rattle.uss_law_supplier.proofs.Onward.{IsOpenJob}
 use Rattle.uss_law_asking.specs.Exchange.{Exchanged, call_in, event_in, turn_of, stands_then, stands_last, IsBegun, IsExchange, last_turn, AllFit, most_found, found_before}
 use Rattle.uss_law_asking.specs.Exchange.Exchanged.{OfDss, OfPeer}
 use Rattle.uss_law_asking.specs.Refused.{refusal_at}
