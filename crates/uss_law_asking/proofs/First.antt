@@ -59,6 +59,7 @@ use Rattle.uss_law_asking.specs.Causes.{AsksForNoChange}
 use Rattle.uss_law_asking.proofs.Budget.{cost, IsWaiting, IsWithin}
 use Rattle.uss_law_asking.proofs.Acts.{gives_up}
 use Rattle.uss_law_asking.proofs.Asked.{resumes, new_duty, opens}
+use Rattle.uss_law_asking.proofs.Blocked.{IsFree, cancels_free, resumes_free}
 use Rattle.uss_law_asking.proofs.Lacks.{IsPlain, gives_up_plain, resumes_plain}
 use Rattle.uss_law_asking.proofs.Stops.{IsOnce, IsKeeping, asks_silently_after, gives_up_so, goes_on_silently, attempts_silently}
 
@@ -68,6 +69,7 @@ pub record OfJob (s : Standing) (event : Event) (o : Opening) (t : Turn) : Type 
   pub within : (n : ℕ) → found_before s.values (open_job_of o.ask.flight s.book) ≤ n → IsWithin n s o t (5 + cost (rounds_of o.ask.wish) n)
   pub keeps : IsKeeping s o t
   pub plain : IsPlain t
+  pub free : IsFree t
 
 -- it refuses, or is of a job that is so
 abbrev pub FirstIs : (Opening → Type 0) → Standing → Event → Option AskRefusal → Turn → Type 0
@@ -135,6 +137,7 @@ module _ (s : Standing) (event : Event) (o : Opening) (sound : IsSound s.owner s
         within = λ n few. resumes n s o (its u) (legal_known s.book sound.legal) ((legal_known s.book sound.legal).firm o has) sound.fit (few_of n u few);
         keeps = resumes_silently s o;
         plain = resumes_plain s o;
+        free = resumes_free s o;
       }
 
   of_given_up : is_closed o.job s.book ≡ false → OfJob s event o (giving_up s o Ends.Cancelled)
@@ -144,10 +147,11 @@ module _ (s : Standing) (event : Event) (o : Opening) (sound : IsSound s.owner s
         within = λ n few. gives_up n s o Ends.Cancelled (5 + cost (rounds_of o.ask.wish) n) (its u) (omega arith);
         keeps = gives_up_so s o Ends.Cancelled (its u);
         plain = gives_up_plain s o Ends.Cancelled refl;
+        free = cancels_free s o;
       }
 
   of_answered : OfJob s event o (answered_again s o)
-  of_answered = record { named = named; within = λ n few. inl refl; keeps = inr (refl, closed_once o.job s.book (legal_is_orderly s.book sound.legal)); plain = refl }
+  of_answered = record { named = named; within = λ n few. inl refl; keeps = inr (refl, closed_once o.job s.book (legal_is_orderly s.book sound.legal)); plain = refl; free = refl }
 
 -- a repeated request has the rounds of the one before
 
@@ -222,6 +226,7 @@ module _ (s : Standing) (event : Event) (at : ℤ) (ask : FlightAsk) (about : Is
             within = λ n few. opens n s at ask orderly (legal_known s.book sound.legal) plan;
             keeps = subst (λ (t : Turn). IsKeeping s o (with_entry e t)) (sym (new_duty s at ask orderly (legal_known s.book sound.legal))) (asks_silently_after s o e (first_kind (is_end ask.wish)));
             plain = refl;
+            free = refl;
           }
 
       go : (x : Option AskRefusal) → FirstIs (IsFor ask) s event x (new_by s at ask x)
@@ -314,7 +319,7 @@ of_cancel s flight number sound = at_last (last_of flight s.book) refl
 -- that it is counted leaves the job
 counted_job : (s : Standing) (event : Event) (o : Opening) (flight : ℕ) (g : Sighting) (t : Turn) → OfJob s event o t → OfJob s event o (counted_with flight g t)
 unfolding progress_of
-counted_job s event o flight g t j = record { named = j.named; within = λ n few. go n (is_refused t.said) (j.within n few); keeps = j.keeps; plain = j.plain }
+counted_job s event o flight g t j = record { named = j.named; within = λ n few. go n (is_refused t.said) (j.within n few); keeps = j.keeps; plain = j.plain; free = j.free }
   where
     waits : (n : ℕ) (c : ℕ) (call : Outgoing) (b : Bool) → IsWaiting n (stands_then s t) o call c → IsWaiting n (stands_then s (record t { values = counted_unless b flight g t.values })) o call c
     waits n c call true w = w

@@ -37,14 +37,13 @@ use Rattle.uss_law_supplier.specs.Values.{awaited_of, progress_of}
 use Rattle.uss_law_supplier.specs.Table.{on_heard, when_awaited}
 use Rattle.uss_law_supplier.specs.Calls.{kind_of, is_it}
 use Rattle.uss_law_supplier.specs.Turns.{Standing, Turn, said_of}
-use Rattle.uss_law_supplier.specs.Jobs.{view_of, heard_of_dss, heard_of_peer, owns_tag, round_by_dss, round_by_peer, with_values, carry_out, carry_out_peer, open_by_peer}
+use Rattle.uss_law_supplier.specs.Jobs.{view_of, heard_of_dss, heard_of_peer, owns_tag, round_by_dss, with_values, carry_out, carry_out_peer, open_by_peer}
 use Rattle.uss_law_supplier.specs.Replies.{of_job_by_peer, replied_to_peer, hearing_it}
 use Rattle.uss_law_supplier.specs.Asks.{refusing}
-use Rattle.uss_law_supplier.proofs.Onward.{IsOpenJob}
 use Rattle.uss_law_asking.specs.Exchange.{Exchanged, call_in, event_in, turn_of, stands_then, stands_last, IsBegun, IsExchange, last_turn, AllFit, most_found, found_before}
 use Rattle.uss_law_asking.specs.Exchange.Exchanged.{OfDss, OfPeer}
 use Rattle.uss_law_asking.specs.Refused.{refusal_at}
-use Rattle.uss_law_asking.specs.Causes.{IsCarriedOut, outcome, book_then, AsksForNoChange}
+use Rattle.uss_law_asking.specs.Causes.{IsCarriedOut, outcome, book_then, taken_in, AsksForNoChange}
 use Rattle.uss_law_asking.proofs.Budget.{cost, IsWaiting, IsWithin}
 use Rattle.uss_law_asking.proofs.Bounded.{same_details, peer_waits, steps, first_call, first_fits, first_few}
 use Rattle.uss_law_asking.proofs.Walk.{acts_so}
@@ -65,24 +64,21 @@ dss_turn n s moment o call reply b w fit =
 
 pub peer_turn : (n : ℕ) (s : Standing) (moment : ℤ) (o : Opening) (job flight : ℕ) (manager base : List ℕ) (reply : PeerReply) (b : ℕ) → IsWaiting n s o (Goes.Peer (Calls.Details job flight manager base)) b
     → peer_fits (Calls.Details job flight manager base) reply ≡ true
-    → (t : Standing) × (t.owner ≡ s.owner) × (t.book ≡ s.book)
-    × (turn_of s moment (Comes.Peer (Calls.Details job flight manager base) reply) ≡ carry_out_peer t o (Calls.Details job flight manager base) reply (on_heard (view_of t o) Waits.Details (heard_of_peer t o reply)))
+    → turn_of s moment (Comes.Peer (Calls.Details job flight manager base) reply)
+    ≡ carry_out_peer (taken_in s o (Comes.Peer (Calls.Details job flight manager base) reply)) o (Calls.Details job flight manager base) reply
+    (on_heard (view_of (taken_in s o (Comes.Peer (Calls.Details job flight manager base) reply)) o) Waits.Details (heard_of_peer (taken_in s o (Comes.Peer (Calls.Details job flight manager base) reply)) o reply))
 unfolding view_of progress_of
 peer_turn n s moment o job flight manager base reply b w fit =
     let call = Calls.Details job flight manager base in
     let h = hearing_it s call reply in
-    let t = with_values h (round_by_peer h o call reply) in
+    let t = taken_in s o (Comes.Peer call reply) in
     let opened : opening_of job s.book ≡ Some o = ap (λ j. opening_of j s.book) w.its_job ∙ w.unfinished.opened in
     let it : is_it (Goes.Peer call) (awaited_of o.job h.values) ≡ true = ap (is_it (Goes.Peer call)) w.waits ∙ same_details job flight manager base in
-    let k : option_and_then kind_of (awaited_of o.job t.values) ≡ Some Waits.Details = ap (option_and_then kind_of) (peer_waits h o call reply ∙ w.waits) in (
-      t,
-      refl,
-      refl,
-      ap (λ (x : Option Opening). replied_to_peer h call reply x) opened
-          ∙ ap (λ (x : Bool). of_job_by_peer h o call reply x) w.unfinished.unclosed
-          ∙ ap (λ (x : Bool). open_by_peer h o call reply x) (and_true (peer_fits call reply) (is_it (Goes.Peer call) (awaited_of o.job h.values)) fit it)
-          ∙ ap (λ (x : Option Awaited). carry_out_peer t o call reply (when_awaited (view_of t o) (heard_of_peer t o reply) x)) k,
-    )
+    let k : option_and_then kind_of (awaited_of o.job t.values) ≡ Some Waits.Details = ap (option_and_then kind_of) (peer_waits h o call reply ∙ w.waits) in
+    ap (λ (x : Option Opening). replied_to_peer h call reply x) opened
+    ∙ ap (λ (x : Bool). of_job_by_peer h o call reply x) w.unfinished.unclosed
+    ∙ ap (λ (x : Bool). open_by_peer h o call reply x) (and_true (peer_fits call reply) (is_it (Goes.Peer call) (awaited_of o.job h.values)) fit it)
+    ∙ ap (λ (x : Option Awaited). carry_out_peer t o call reply (when_awaited (view_of t o) (heard_of_peer t o reply) x)) k
 
 -- says nothing, what the book keeps, or the answer with which the job stops there
 pub says_at : (n : ℕ) (s : Standing) (moment : ℤ) (o : Opening) (x : Exchanged) (b : ℕ) → IsWaiting n s o (call_in x) b → AllFit (x ∷ []) → IsSaying s o (stop_by s.owner o s.book x) (turn_of s moment (event_in x))
@@ -92,12 +88,8 @@ says_at n s moment o (OfDss call reply) b w fit =
 says_at n s moment o (OfPeer (Calls.Notify job place base note) reply) b w fit = let e = w.is in cc
 says_at n s moment o (OfPeer (Calls.Details job flight manager base) reply) b w fit =
     let call = Calls.Details job flight manager base in
-    let p = peer_turn n s moment o job flight manager base reply b w fit.0 in
-    let u : IsOpenJob p.0.book o = subst (λ book. IsOpenJob book o) (sym p.2) w.unfinished in
-    subst (λ (x : Turn). IsSaying s o (stop_by s.owner o s.book (OfPeer call reply)) x) (sym p.3)
-    (subst (λ (owner : Owner). IsSaidBy owner s.book o (stop_by s.owner o s.book (OfPeer call reply)) (carry_out_peer p.0 o call reply (on_heard (view_of p.0 o) Waits.Details (heard_of_peer p.0 o reply)))) p.1
-    (subst (λ (book : List Entry). IsSaidBy p.0.owner book o (stop_by s.owner o s.book (OfPeer call reply)) (carry_out_peer p.0 o call reply (on_heard (view_of p.0 o) Waits.Details (heard_of_peer p.0 o reply)))) p.2
-    (says_by_peer p.0 o job flight manager base reply u fit.0)))
+    subst (λ (x : Turn). IsSaying s o (stop_by s.owner o s.book (OfPeer call reply)) x) (sym (peer_turn n s moment o job flight manager base reply b w fit.0))
+    (says_by_peer (taken_in s o (Comes.Peer call reply)) o job flight manager base reply w.unfinished fit.0)
 
 -- a job that doesn't stop at a reply doesn't stop there by a longer book
 

@@ -44,7 +44,7 @@ use Rattle.uss_law_supplier.specs.Fitting.{IsPhase}
 use Rattle.uss_law_book.proofs.Others.{decisions_append}
 use Rattle.uss_law_asking.specs.Exchange.{Exchanged, call_in, event_in, turn_of, stands_then, stands_after, IsBegun, last_turn, AllFit, AllTyped, most_found, found_before}
 use Rattle.uss_law_asking.specs.Exchange.Exchanged.{OfDss, OfPeer}
-use Rattle.uss_law_asking.specs.Causes.{IsCarriedOut, outcome, book_then, missing_in, missing_last, StaleNamesTheMissing}
+use Rattle.uss_law_asking.specs.Causes.{IsCarriedOut, taken_in, outcome, book_then, missing_in, missing_last, StaleNamesTheMissing}
 use Rattle.uss_law_asking.proofs.Budget.{cost, IsWaiting}
 use Rattle.uss_law_asking.proofs.Bounded.{steps, first_fits, first_few}
 use Rattle.uss_law_asking.proofs.Lacks.{is_stale_decision, IsNaming, plain_by_peer, names_by_dss}
@@ -63,7 +63,7 @@ DecidedStale job missing book = (d : Closing) × (decision_of job book ≡ Some 
 abbrev StaleIsDecided : List Entry → Type 0
 StaleIsDecided book = (job : ℕ) (c : Closing) (missing : List ℕ) → ending_of job book ≡ Some c → c.end ≡ Ends.Stale missing → DecidedStale job missing book
 
-decision_kept : (job : ℕ) (book more : List Entry) (d : Closing) → decision_of job book ≡ Some d → decision_of job (book ++ more) ≡ Some d
+pub decision_kept : (job : ℕ) (book more : List Entry) (d : Closing) → decision_of job book ≡ Some d → decision_of job (book ++ more) ≡ Some d
 unfolding decision_of
 decision_kept job book more d h = ap (find (λ (c : Closing). c.job == job)) (decisions_append book more) ∙ find_kept (λ (c : Closing). c.job == job) (decisions book) (decisions more) d h
 
@@ -115,11 +115,11 @@ stale_is_decided : (book : List Entry) → IsLegal book → StaleIsDecided book
 unfolding ending_of
 stale_is_decided book h = stale_from [] book (λ job c missing e k. cc) h
 
-decision_kept_after : (job : ℕ) (book : List Entry) (x : Option Entry) (d : Closing) → decision_of job book ≡ Some d → decision_of job (book_after book x) ≡ Some d
+pub decision_kept_after : (job : ℕ) (book : List Entry) (x : Option Entry) (d : Closing) → decision_of job book ≡ Some d → decision_of job (book_after book x) ≡ Some d
 decision_kept_after job book None d h = h
 decision_kept_after job book (Some e) d h = decision_kept job book (e ∷ []) d h
 
-decision_end : (job : ℕ) (from : Event) (s : Standing) (moment : ℤ) (xs : List Exchanged) (d : Closing) → decision_of job (book_after s.book (turn_of s moment from).entry) ≡ Some d → decision_of job (stands_after s moment from xs).book ≡ Some d
+pub decision_end : (job : ℕ) (from : Event) (s : Standing) (moment : ℤ) (xs : List Exchanged) (d : Closing) → decision_of job (book_after s.book (turn_of s moment from).entry) ≡ Some d → decision_of job (stands_after s moment from xs).book ≡ Some d
 decision_end job from s moment [] d h = h
 decision_end job from s moment (x ∷ xs) d h =
     let t = stands_then s (turn_of s moment from) in
@@ -157,8 +157,7 @@ names_at n s moment o (OfDss call reply) b w fit =
     subst (λ (x : Turn). IsNaming o (missing_in (OfDss call reply)) x) (sym (dss_turn n s moment o call reply b w fit.0)) (names_by_dss t o call.job call.ask reply w.kind w.is fit.0)
 names_at n s moment o (OfPeer (Calls.Notify job place base note) reply) b w fit = let e = w.is in cc
 names_at n s moment o (OfPeer (Calls.Details job flight manager base) reply) b w fit =
-    let p = peer_turn n s moment o job flight manager base reply b w fit.0 in
-    subst (λ (x : Turn). IsNaming o None x) (sym p.3) (inl (plain_by_peer p.0 o job flight manager base reply fit.0))
+    subst (λ (x : Turn). IsNaming o None x) (sym (peer_turn n s moment o job flight manager base reply b w fit.0)) (inl (plain_by_peer (taken_in s o (Comes.Peer (Calls.Details job flight manager base) reply)) o job flight manager base reply fit.0))
 
 -- a job that decided isn't refused for want of OVNs, but that it stops there
 
@@ -205,7 +204,7 @@ abbrev IsDecided : ℕ → Option Closing → List Exchanged → List Entry → 
 IsDecided job before replies book = (d : Closing) → decision_of job book ≡ Some d → (before ≡ Some d) ⊎ ((m : List ℕ) → d.end ≡ Ends.Stale m → missing_last replies ≡ Some m)
 
 -- a decision is an old one, or that of the new entry
-new_decision : (job : ℕ) (book : List Entry) (e : Entry) (d : Closing) → decision_of job (book ++ e ∷ []) ≡ Some d → (decision_of job book ≡ Some d) ⊎ (e ≡ Enters.Deciding job d.end)
+pub new_decision : (job : ℕ) (book : List Entry) (e : Entry) (d : Closing) → decision_of job (book ++ e ∷ []) ≡ Some d → (decision_of job book ≡ Some d) ⊎ (e ≡ Enters.Deciding job d.end)
 unfolding decision_of
 new_decision job book e d h = at (find p (decisions book)) refl (sym (ap (find p) (decisions_append book (e ∷ [])) ∙ find-append p (decisions book) (decisions (e ∷ []))) ∙ h)
   where

@@ -1,5 +1,5 @@
 -- From what each answer comes that an exchange ends with: of a request, of a cancel and of a position. This project's own.
-use Rattle.std.specs.Prelude.{ℕ, ◌<◌, ◌≡◌, ◌↔◌, ℤ, Bool, true, false, List, [], ◌∷◌, length, filter_map, map, Option, Some, None, unwrap_or}
+use Rattle.std.specs.Prelude.{ℕ, ◌<◌, ◌≡◌, ◌↔◌, ℤ, Bool, true, false, List, [], ◌∷◌, length, filter_map, map, Option, Some, None, unwrap_or, ◌⊎◌, slice_get}
 use Rattle.std.specs.List.{last_or}
 use Rattle.uss_intent.specs.Numbers.{is_one_of}
 use Rattle.uss_intent.specs.Refusals.{refusal_number}
@@ -13,6 +13,8 @@ use Rattle.uss_event.specs.Pairs.{OperationalIntent}
 use Rattle.uss_event.specs.declared.asks.Conform.{Conform}
 use Rattle.uss_event.specs.declared.asks.PositionAsk.{PositionAsk}
 use Rattle.uss_event.specs.declared.asks.AskRefusal.{AskRefusal}
+use Rattle.uss_event.specs.declared.rules.Verdict.{Verdict}
+use Rattle.uss_plan.specs.declared.choice.Choice.TheVariants.{Blocked}
 use Rattle.uss_event.specs.declared.entries.Owner.{Owner}
 use Rattle.uss_event.specs.declared.entries.Entry.{Entry}
 use Rattle.uss_event.specs.declared.entries.Ending.TheVariants as Ends
@@ -27,20 +29,22 @@ use Rattle.uss_event.specs.declared.events.Event.{Event}
 use Rattle.uss_event.specs.declared.events.Event.TheVariants as Comes
 use Rattle.uss_law_dss.specs.Lists.{Has}
 use Rattle.uss_law_book.specs.Lists.{Opening, Closing}
-use Rattle.uss_law_book.specs.Readings.{open_job_of, decision_of, ending_of}
+use Rattle.uss_law_book.specs.Readings.{is_closed, open_job_of, decision_of, ending_of}
 use Rattle.uss_law_book.specs.Attempts.{held}
 use Rattle.uss_law_duty.specs.Duties.{clamped}
 use Rattle.uss_law_duty.specs.Answers.{is_final, flight_of, by_end, job_named}
 use Rattle.uss_law_duty.specs.Sayings.{others, IsKeptAnswer}
 use Rattle.uss_law_duty.specs.Entered.{shown_tag}
 use Rattle.uss_law_supplier.specs.Monitor.{later_position}
-use Rattle.uss_law_supplier.specs.Values.{sightings_of}
+use Rattle.uss_law_supplier.specs.Values.{round_of, sightings_of}
 use Rattle.uss_law_supplier.specs.Turns.{Standing}
-use Rattle.uss_law_supplier.specs.Jobs.{keeps_key, owns_tag}
+use Rattle.uss_law_supplier.specs.Airspace.{pairs_in, choice_of}
+use Rattle.uss_law_supplier.specs.Jobs.{keeps_key, owns_tag, round_by_dss, round_by_peer, with_values}
+use Rattle.uss_law_supplier.specs.Replies.{hearing_it}
 use Rattle.uss_law_supplier.specs.Positions.{is_numbered}
 use Rattle.uss_law_supplier.specs.Typed.{IsEvent}
 use Rattle.uss_law_supplier.specs.Laws.{IsSound}
-use Rattle.uss_law_asking.specs.Exchange.{Exchanged, is_operators, IsExchange, AllFit, AllTyped, last_turn, stands_after}
+use Rattle.uss_law_asking.specs.Exchange.{Exchanged, is_operators, event_in, turn_of, stands_then, IsExchange, AllFit, AllTyped, last_turn, stands_after}
 use Rattle.uss_law_asking.specs.Exchange.Exchanged.{OfDss, OfPeer}
 use Rattle.uss_law_asking.specs.Refused.{refusal_at, finding_at, change_at}
 
@@ -211,3 +215,37 @@ abbrev pub StaleNamesTheMissing : Type 0
 StaleNamesTheMissing =
     (s : Standing) (moment : ℤ) (event : Event) (xs : List Exchanged) (missing : List ℕ) → IsCarriedOut s moment event xs → IsEvent event → AllTyped xs → outcome s moment event xs ≡ Says.Answer (Answers.Stale missing)
     → NamesTheMissing s.book (book_then s moment event xs) event xs missing
+
+-- what a supplier stands on once it took a reply in
+abbrev pub taken_in : Standing → Opening → Event → Standing
+taken_in s o (Comes.Dss call reply) = with_values s (round_by_dss s o reply)
+taken_in s o (Comes.Peer call reply) = with_values s (round_by_peer (hearing_it s call reply) o call reply)
+taken_in s o event = s
+
+-- the choice of the job among its alternatives is blocked there by this flight, this manager's, and this rule
+pub record IsBlockedBy (s : Standing) (o : Opening) (flight : ℕ) (manager : List ℕ) (rule : Verdict) : Type 0 where
+  pub place : ℕ
+  pub pair : OperationalIntent
+  pub blocked : choice_of s o (pairs_in s (round_of o.job s.values)) ≡ Blocked place rule
+  pub at : slice_get (pairs_in s (round_of o.job s.values)) place ≡ Some pair
+  pub flight_is : pair.reference.flight ≡ flight
+  pub manager_is : pair.reference.manager ≡ manager
+
+-- so it is at some step of the exchange
+abbrev pub AtSomeStep : (Standing → Event → Type 0) → Standing → ℤ → Event → List Exchanged → Type 0
+AtSomeStep P s moment event [] = P s event
+AtSomeStep P s moment event (x ∷ xs) = P s event ⊎ AtSomeStep P (stands_then s (turn_of s moment event)) moment (event_in x) xs
+
+-- Conflict names the pair by which the choice was blocked, and the rule: in this exchange, where the job was open and hadn't decided before
+-- it; else the book has them since then
+pub record NamesThePair (s : Standing) (moment : ℤ) (event : Event) (xs : List Exchanged) (flight : ℕ) (manager : List ℕ) (rule : Verdict) : Type 0 where
+  pub opening : Opening
+  pub named : job_named event (book_then s moment event xs) ≡ Some opening
+  pub here : is_closed opening.job s.book ≡ false → decision_of opening.job s.book ≡ None
+      → AtSomeStep (λ t e. IsBlockedBy (taken_in t opening e) opening flight manager rule) s moment event xs
+  pub earlier : (d : Closing) → decision_of opening.job s.book ≡ Some d → d.end ≡ Ends.Conflict flight manager rule
+
+abbrev pub ConflictNamesThePair : Type 0
+ConflictNamesThePair =
+    (s : Standing) (moment : ℤ) (event : Event) (xs : List Exchanged) (flight : ℕ) (manager : List ℕ) (rule : Verdict) → IsCarriedOut s moment event xs → IsEvent event → AllTyped xs
+    → outcome s moment event xs ≡ Says.Answer (Answers.Conflict flight manager rule) → NamesThePair s moment event xs flight manager rule

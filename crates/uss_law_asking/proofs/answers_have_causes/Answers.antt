@@ -1,4 +1,5 @@
 use Rattle.uss_law_asking.proofs.Caused as Caused
+use Rattle.uss_law_asking.proofs.Conflicts as Conflicts
 use Rattle.uss_law_asking.proofs.Final as Final
 use Rattle.uss_law_asking.proofs.Stale as Stale
 use Rattle.uss_law_asking.proofs.answers_have_causes.Goals as goal
@@ -26,3 +27,6 @@ returns-clause-unsettled c = Caused.unsettled_is_got
 
 pub returns-clause-steady : goal.returns-clause-steady
 returns-clause-steady c = Final.steady_asks_for_no_change
+
+pub returns-clause-conflict : goal.returns-clause-conflict
+returns-clause-conflict c = Conflicts.conflict_names_the_pair
