@@ -1,5 +1,5 @@
 -- What a step changes of what a supplier keeps beside its book.
-use Rattle.std.proofs.Common.{ℕ, ◌==◌, ◌≢◌, ℤ, Bool, true, false, cond, nat_lt, ◌||◌, List, [], ◌∷◌, ◌++◌, ◌≡◌, ◌⊎◌, inl, inr, refl, ap, sym, subst, ◌∙◌, Option, Some, None, is_some}
+use Rattle.std.proofs.Common.{ℕ, ◌==◌, ℤ, Bool, true, false, cond, nat_lt, ◌||◌, List, [], ◌∷◌, ◌++◌, ◌≡◌, inl, inr, refl, ap, sym, subst, ◌∙◌, Option, Some, None, is_some}
 use Rattle.std.proofs.lemmas.List.{append-nil}
 use Rattle.uss_intent.specs.declared.records.Reference.{Reference}
 use Rattle.uss_intent.specs.declared.records.Subscriber.{Subscriber}
@@ -16,8 +16,6 @@ use Rattle.uss_event.specs.declared.asks.AskRefusal.{AskRefusal}
 use Rattle.uss_event.specs.declared.asks.AskRefusal.TheVariants as Refuses
 use Rattle.uss_event.specs.declared.asks.FlightAsk.{FlightAsk}
 use Rattle.uss_event.specs.declared.asks.PositionAsk.{PositionAsk}
-use Rattle.uss_event.specs.declared.entries.Owner.{Owner}
-use Rattle.uss_event.specs.declared.entries.Entry.{Entry}
 use Rattle.uss_event.specs.declared.entries.Entry.TheVariants as Enters
 use Rattle.uss_event.specs.declared.entries.Ending.{Ending}
 use Rattle.uss_event.specs.declared.entries.Ending.TheVariants as Ends
@@ -40,21 +38,21 @@ use Rattle.uss_law_book.specs.Attempts.{held}
 use Rattle.uss_law_duty.specs.Heard.{News, by_pair}
 use Rattle.uss_law_duty.specs.Entered.{shown_tag}
 use Rattle.uss_law_duty.specs.Duties.{clamped}
-use Rattle.uss_law_duty.specs.Answers.{job_of_call, kept_answer}
+use Rattle.uss_law_duty.specs.Answers.{job_of_call}
 use Rattle.uss_law_supplier.specs.declared.duties.Awaited.{Awaited}
 use Rattle.uss_law_supplier.specs.declared.duties.Awaited.TheVariants as Waits
 use Rattle.uss_law_supplier.specs.declared.duties.Duty.{Duty}
 use Rattle.uss_law_supplier.specs.declared.duties.Duty.TheVariants as Duties
-use Rattle.uss_law_supplier.specs.Values.{Values, Counted, Progress, Round, round_of, progress_of, awaited_of, sightings_of, awaiting, in_round, without_job, unawaited, with_progress, asking_for, leaving_out, hearing, counting}
-use Rattle.uss_law_supplier.specs.Turns.{Standing, Turn, saying, sending, calling, said_of, dss_call, entered, entering}
+use Rattle.uss_law_supplier.specs.Values.{Values, Counted, Round, round_of, progress_of, awaited_of, sightings_of, in_round, without_job, unawaited, with_progress, asking_for, hearing}
+use Rattle.uss_law_supplier.specs.Turns.{Standing, Turn, calling, dss_call, entered}
 use Rattle.uss_law_supplier.specs.Airspace.{next_unheard, pairs_in, key_of, choice_of}
 use Rattle.uss_law_supplier.specs.Table.{by_book, on_reply}
 use Rattle.uss_law_supplier.specs.Calls.{call_of}
-use Rattle.uss_law_supplier.specs.Jobs.{making, asking, pending, attempting, ending, holding_as, recording, deciding, giving_up_after, giving_up, ending_as, closing, stopping, looking_at, blocked_by, choosing_by, choosing, call_made, carry_on, going_on, resuming_by, resuming, carry_out, carry_out_peer, owed_by, reference_by, missing_by, view_of, round_by_dss, round_by_peer, heard_of_dss, heard_of_peer, with_values, open_by_dss, open_by_peer, acting_on_dss, acting_on_peer}
-use Rattle.uss_law_supplier.specs.Asks.{opening_entry, opening_for, new_refusal, new_by, asked_anew, answered_again, asked_for, repeated_by, repeated, asked_after, asked_with, refusing, plan_refusal}
+use Rattle.uss_law_supplier.specs.Jobs.{making, asking, pending, attempting, ending, holding_as, recording, deciding, giving_up_after, ending_as, closing, looking_at, blocked_by, choosing_by, choosing, call_made, carry_on, resuming_by, carry_out, carry_out_peer, owed_by, reference_by, missing_by, view_of, round_by_dss, round_by_peer, heard_of_dss, heard_of_peer, with_values, open_by_dss, open_by_peer, acting_on_dss, acting_on_peer}
+use Rattle.uss_law_supplier.specs.Asks.{opening_entry, opening_for, new_refusal, new_by, asked_anew, asked_for, repeated_by, repeated, asked_after, asked_with, refusing, plan_refusal}
 use Rattle.uss_law_supplier.specs.Cancels.{cancelled_open, cancelled_job, cancelled_after}
 use Rattle.uss_law_supplier.specs.Monitor.{Sighting, later_position}
-use Rattle.uss_law_supplier.specs.Positions.{sighting_of, found_with, wished, is_refused, counted_with, counted_unless, acting_as, judged_as, judged_unless, is_numbered, positioned_for, positioned_with}
+use Rattle.uss_law_supplier.specs.Positions.{sighting_of, found_with, wished, is_refused, counted_unless, acting_as, judged_as, judged_unless, is_numbered, positioned_for, positioned_with}
 use Rattle.uss_law_supplier.specs.Replies.{retires, is_told_now, heard_by, hearing_it, closed_by_dss, closed_by_peer, of_job_by_dss, of_job_by_peer, replied_to, replied_to_peer}
 use Rattle.uss_law_supplier.specs.Step.{is_of_another, notified_by, stepped}
 use Rattle.uss_law_supplier.specs.Keeping.{news_of, counted_position, counted_by, counted_of, WaitsThen, Advances, Changes, StepsChangeSo}

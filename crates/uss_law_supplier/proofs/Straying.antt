@@ -1,14 +1,12 @@
 -- What the monitor's findings come to.
 use Rattle.std.proofs.Common.{arith, ℕ, ◌==◌, ℤ, Bool, true, false, cond, List, [], ◌∷◌, ◌++◌, ◌≡◌, ◌⊎◌, inl, inr, fold, filter, map, refl, ap, sym, subst, ◌∙◌, Option, Some, None, is_some, ◌||◌}
-use Rattle.std.specs.Prelude.{◌+ℤ◌, ◌-ℤ◌, ◌≤ℤ◌, int_lt, int_le, unwrap_or, ◌↔◌, IfSome}
+use Rattle.std.specs.Prelude.{◌+ℤ◌, ◌-ℤ◌, ◌≤ℤ◌, int_lt, int_le, unwrap_or, ◌↔◌}
 use Rattle.std.proofs.lemmas.Int.{ints}
 use Rattle.std.proofs.lemmas.List.{append-nil, map-append}
 use Rattle.std.proofs.lemmas.List.Elements.{filter-append}
 use Rattle.uss_event.specs.Pairs.{OperationalIntent}
 use Rattle.uss_event.specs.declared.asks.Conform.TheVariants as Finds
 use Rattle.uss_event.specs.declared.asks.PositionAsk.{PositionAsk}
-use Rattle.uss_event.specs.declared.entries.Entry.{Entry}
-use Rattle.uss_event.specs.declared.events.Said.{Said}
 use Rattle.uss_event.specs.declared.events.Event.{Event}
 use Rattle.uss_event.specs.declared.events.Event.TheVariants as Comes
 use Rattle.uss_law_book.specs.Lists.{Opening}
@@ -22,7 +20,7 @@ use Rattle.uss_law_supplier.specs.Monitor.{Sighting, Watch, no_watch, patience, 
 use Rattle.uss_law_supplier.specs.Positions.{is_refused, sighting_of, is_numbered, positioned_for, positioned_with, judged_unless}
 use Rattle.uss_law_supplier.specs.Step.{stepped}
 use Rattle.uss_law_supplier.specs.Straying.{NoneBefore, AreInOrder, StaysOutside, IsLost, LostIsContingent, by_last, OthersAreWhereLastSeen, IsInOrder, PositionsStayInOrder}
-use Rattle.uss_law_supplier.specs.Keeping.{counted_position, counted_by, counted_of}
+use Rattle.uss_law_supplier.specs.Keeping.{counted_position, counted_by}
 use Rattle.uss_law_supplier.proofs.Watching.{found_after}
 use Rattle.uss_law_supplier.proofs.Keeping as Keeping
 

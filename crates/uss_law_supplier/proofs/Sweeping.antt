@@ -1,27 +1,23 @@
 -- Each chore of a legal book has its call.
-use Rattle.std.proofs.Common.{arith, ℕ, ◌<◌, ◌≤◌, true, not, List, [], ◌∷◌, ◌≡◌, inl, inr, length, map, take, drop, filter, refl, ap, sym, subst, ◌∙◌, Option, Some, slice_get}
-use Rattle.std.specs.Prelude.{min}
+use Rattle.std.proofs.Common.{arith, ℕ, ◌<◌, ◌≤◌, not, List, [], ◌∷◌, ◌≡◌, inl, inr, length, map, take, drop, filter, refl, ap, subst, ◌∙◌, Some, slice_get}
 use Rattle.std.specs.List.{flat_map, filter_map, range_with_len}
 use Rattle.std.specs.Option.{option_map, option_and_then}
 use Rattle.std.proofs.lemmas.List.{length-take}
 use Rattle.std.proofs.lemmas.Option.{slice_get_cases}
-use Rattle.uss_intent.specs.declared.records.Subscriber.{Subscriber}
-use Rattle.uss_intent.specs.Numbers.{is_one_of}
 use Rattle.uss_event.specs.declared.entries.Owner.{Owner}
 use Rattle.uss_event.specs.declared.entries.Entry.{Entry}
 use Rattle.uss_event.specs.declared.calls.Outgoing.{Outgoing}
 use Rattle.uss_law_dss.specs.Lists.{Has}
 use Rattle.uss_law_dss.proofs.Lists.{has_append, has_map, has_filter}
 use Rattle.uss_law_book.specs.Lists.{Opening, openings}
-use Rattle.uss_law_book.specs.Readings.{opening_of, owed_of, untold, is_told}
+use Rattle.uss_law_book.specs.Readings.{owed_of, untold, is_told}
 use Rattle.uss_law_book.specs.Orderly.{IsOrderly}
 use Rattle.uss_law_book.proofs.EachOrderly.{legal_is_orderly}
 use Rattle.uss_law_book.proofs.Held.{opening_is_found}
 use Rattle.uss_law_supplier.specs.declared.duties.Chore.{Chore}
 use Rattle.uss_law_supplier.specs.declared.duties.Chore.TheVariants.{Tell, Retire}
-use Rattle.uss_law_supplier.specs.Turns.{dss_call}
 use Rattle.uss_law_supplier.specs.Chores.{most_chores, tells_of, is_due, chores, notify, notify_of, chore_call}
-use Rattle.uss_law_supplier.specs.Sweeping.{Sweeps, SweepsMakeTheirCalls}
+use Rattle.uss_law_supplier.specs.Sweeping.{SweepsMakeTheirCalls}
 use Rattle.uss_law_supplier.proofs.Choosing.{length_picked}
 use Rattle.uss_law_supplier.proofs.Closed.{in_range}
 use Rattle.uss_law_supplier.proofs.Stepping.{taken, dropped}

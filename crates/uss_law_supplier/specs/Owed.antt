@@ -3,10 +3,8 @@
 use Rattle.std.specs.Prelude.{ℕ, List, [], ◌∷◌, ◌++◌, codes, Some, None}
 use Rattle.uss_intent.specs.Identifiers.{ticket_number}
 use Rattle.uss_intent.specs.declared.records.Subscriber.{Subscriber}
-use Rattle.uss_intent.specs.declared.records.State.TheVariants.{Activated}
 use Rattle.uss_intent.specs.declared.calls.DssAsk.{DssAsk}
 use Rattle.uss_intent.specs.declared.calls.DssAsk.TheVariants as Asks
-use Rattle.uss_event.specs.Pairs.{OperationalIntent}
 use Rattle.uss_event.specs.declared.entries.Ending.TheVariants as Ends
 use Rattle.uss_event.specs.declared.entries.Entry.{Entry}
 use Rattle.uss_event.specs.declared.entries.Entry.TheVariants as Enters
@@ -14,8 +12,7 @@ use Rattle.uss_event.specs.declared.calls.PeerCall.{PeerCall}
 use Rattle.uss_event.specs.declared.calls.PeerCall.TheVariants as Calls
 use Rattle.uss_event.specs.declared.calls.Outgoing.{Outgoing}
 use Rattle.uss_event.specs.declared.calls.Outgoing.TheVariants as Goes
-use Rattle.uss_law_book.specs.Attempts.{attempted, recorded_as}
-use Rattle.uss_law_duty.specs.Worked.{owner, now, proposal, flight, ovn, tried_book, subscriber}
+use Rattle.uss_law_duty.specs.Worked.{now, flight, ovn, tried_book, subscriber}
 use Rattle.uss_law_supplier.specs.Cases.{upper_ask}
 use Rattle.uss_law_duty.specs.Flown.{flown_opened, flown_pending, flown_ovn, flown_pair}
 

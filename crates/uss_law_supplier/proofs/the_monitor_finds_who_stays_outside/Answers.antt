@@ -1,4 +1,3 @@
-use Rattle.std.proofs.Common.{refl}
 use Rattle.uss_law_supplier.specs.Values.{sightings_of}
 use Rattle.uss_law_supplier.proofs.Straying as Straying
 use Rattle.uss_law_supplier.proofs.the_monitor_finds_who_stays_outside.Goals as goal
