@@ -61,7 +61,7 @@ both_true a b h k = rw (h, k) refl
 finds_so : (s : Standing) (call : DssCall) (references : List Reference) (o : Opening) → Finds s.book s.values call references o
     → replied s call (Replies.Found references)
     ≡ (let t = with_values s (in_round o.job (round_with (others (flight_of s.owner o) references)) s.values) in
-       carry_out t o (Replies.Found references) (on_found true (count_of s o references) (is_left s.owner t.values.heard (round_of o.job t.values))))
+    carry_out t o (Replies.Found references) (on_found true (count_of s o references) (is_left s.owner t.values.heard (round_of o.job t.values))))
 unfolding view_of
 finds_so s call references o f =
     let reply = Replies.Found references in
@@ -69,7 +69,7 @@ finds_so s call references o f =
     let t = with_values s (in_round o.job round s.values) in
     let it : is_it (Goes.Dss call) (awaited_of o.job s.values) ≡ true = ap (is_it (Goes.Dss call)) f.waits ∙ same_as_itself call in
     let k : option_and_then kind_of (awaited_of o.job t.values) ≡ Some Waits.Query = (
-        ap (option_and_then kind_of) (round_awaited o.job round s.values ∙ f.waits) ∙ is_query call.ask references f.fitting) in
+    ap (option_and_then kind_of) (round_awaited o.job round s.values ∙ f.waits) ∙ is_query call.ask references f.fitting) in
     ap (λ (x : Option Opening). replied_to s call reply x) f.opened
     ∙ ap (λ (x : Bool). of_job_by_dss s o call reply x) f.unclosed
     ∙ ap (λ (x : Bool). open_by_dss s o reply x) (both_true (fits call.ask reply) (is_it (Goes.Dss call) (awaited_of o.job s.values)) f.fitting it)
@@ -99,10 +99,11 @@ crowded_exactly owner book values moment call references o count sound f = (fort
         let c = subst (SayingHasCause d.owner book (clamped moment) (Comes.Dss call (Replies.Found references))) h d.cause in
         let own : d.owner ≡ owner = some_same d.owner owner (sym d.owns_book ∙ sound.owned) in
         let same : c.opening ≡ o = some_same c.opening o (sym c.opened ∙ f.opened) in
-        let listed : c.references ≡ references = same_found c.references references (sym c.found) in
-        (c.so_many ∙ ap (λ (x : Owner). length (others (flight_of x c.opening) c.references)) own ∙ ap (λ (x : Opening). length (others (flight_of owner x) c.references)) same
-        ∙ ap (λ l. length (others (flight_of owner o) l)) listed,
-        c.too_many)
+        let listed : c.references ≡ references = same_found c.references references (sym c.found) in (
+          c.so_many ∙ ap (λ (x : Owner). length (others (flight_of x c.opening) c.references)) own ∙ ap (λ (x : Opening). length (others (flight_of owner x) c.references)) same
+              ∙ ap (λ l. length (others (flight_of owner o) l)) listed,
+          c.too_many,
+        )
 
     back : (count ≡ length (others (flight_of owner o) references)) × (most_looked_at < count) → (supplier_step owner book values moment (Comes.Dss call (Replies.Found references))).said ≡ Says.Answer (Answers.Crowded count)
     back h = crowded s call references o f (subst (λ n. most_looked_at < n) h.0 h.1) ∙ ap (λ n. Says.Answer (Answers.Crowded n)) (sym h.0)
