@@ -50,7 +50,8 @@ pub fn a_flight_strays_whatever_is_there()
 
 /// A supplier asks others for the details of what is there, one after another, and puts their OVNs into the key of its attempt. A flight
 /// of which its manager holds nothing is left out; one that was heard at this version isn't asked for; and one that the supplier manages
-/// itself is taken from its book, if it is held there. A status of another supplier stops the job.
+/// itself is taken from its book, if it is held there. A status of another supplier stops the job. A new query begins a new round: what the
+/// one before had asked for is asked for again.
 pub fn a_flight_is_kept_apart()
     ensures found { Does ticket_book (waits 1 query) (replies_to 1 query (Replies.Found (other_reference ∷ []))) None (Goes.Peer details_of_other ∷ []) Nothing asked_other }
     ensures served { Does ticket_book asked_other (Comes.Peer details_of_other (Peers.Served other_pair)) (Some keyed) (calls 1 keyed_put) Nothing (and_heard other_pair (waiting 1 (dss_call 1 keyed_put) asked_round)) }
@@ -67,6 +68,7 @@ pub fn a_flight_is_kept_apart()
         (waiting 1 (Goes.Peer details_of_third) (leaving_out other_reference.flight both_asked)) }
     ensures both_served { Does ticket_book (and_heard other_pair (waiting 1 (Goes.Peer details_of_third) both_asked)) (Comes.Peer details_of_third (Peers.Served third_pair)) (Some both_keyed) (calls 1 both_keyed_put) Nothing
         (and_heard other_pair (and_heard third_pair (waiting 1 (dss_call 1 both_keyed_put) both_asked))) }
+    ensures found_again { Does ticket_book (waiting 1 (dss_call 1 query) (leaving_out other_reference.flight asked_round)) (replies_to 1 query (Replies.Found (other_reference ∷ []))) None (Goes.Peer details_of_other ∷ []) Nothing asked_other }
     ensures blocked { Does ticket_book asked_other (Comes.Peer details_of_other (Peers.Served in_the_way)) (Some (Enters.Done 1 conflict)) [] (Answer (Says.Conflict other_reference.flight other_reference.manager EqualForbidden)) (and_heard in_the_way nothing) }
     ensures blocked_after_an_attempt { Does tried_book asked_other (Comes.Peer details_of_other (Peers.Served in_the_way)) (Some (Enters.Deciding 1 conflict)) (calls 1 ticket_remove) Nothing (and_heard in_the_way (waiting 1 (dss_call 1 ticket_remove) asked_round)) }
 {}
