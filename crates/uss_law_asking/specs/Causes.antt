@@ -33,7 +33,7 @@ use Rattle.uss_law_book.specs.Readings.{is_closed, open_job_of, decision_of, end
 use Rattle.uss_law_book.specs.Attempts.{held}
 use Rattle.uss_law_duty.specs.Duties.{clamped}
 use Rattle.uss_law_duty.specs.Answers.{is_final, flight_of, by_end, job_named}
-use Rattle.uss_law_duty.specs.Sayings.{others, IsKeptAnswer}
+use Rattle.uss_law_duty.specs.Sayings.{most_looked_at, others, IsKeptAnswer}
 use Rattle.uss_law_duty.specs.Entered.{shown_tag}
 use Rattle.uss_law_supplier.specs.Monitor.{later_position}
 use Rattle.uss_law_supplier.specs.Values.{round_of, sightings_of}
@@ -109,7 +109,7 @@ pub record FindsTooMany (owner : Owner) (book : List Entry) (event : Event) (xs 
   pub references : List Reference
   pub found : Has xs (OfDss call (Replies.Found references))
   pub so_many : length (others (flight_of owner opening) references) ≡ count
-  pub too_many : 1024 < count
+  pub too_many : most_looked_at < count
 
 abbrev pub CrowdedIsFound : Type 0
 CrowdedIsFound =

@@ -31,6 +31,7 @@ use Rattle.uss_law_book.specs.Readings.{last_of}
 use Rattle.uss_law_book.specs.Attempts.{held}
 use Rattle.uss_law_book.specs.Legal.{IsAfter}
 use Rattle.uss_law_duty.specs.Heard.{kept_pair, is_of}
+use Rattle.uss_law_duty.specs.Sayings.{most_looked_at}
 use Rattle.uss_law_supplier.specs.Calls.{area_of}
 use Rattle.uss_law_supplier.specs.Turns.{Standing}
 use Rattle.uss_law_supplier.specs.Airspace.{held_as, is_own, choice_of}
@@ -135,7 +136,7 @@ IsKeyedOutcome new flight true count pairs c said = said ≡ Says.Answer (Answer
 IsKeyedOutcome new flight false count pairs c said = IsOfChoice new flight pairs c said
 
 abbrev pub IsPutOutcome : Bool → ℕ → Bool → ℕ → List OperationalIntent → Choice → Said → Type 0
-IsPutOutcome new flight true count pairs c said = IsKeyedOutcome new flight (nat_lt 1024 count) count pairs c said
+IsPutOutcome new flight true count pairs c said = IsKeyedOutcome new flight (nat_lt most_looked_at count) count pairs c said
 IsPutOutcome new flight false count pairs c said = IsRecordedBy new flight 0 said
 
 -- what the request comes to

@@ -13,10 +13,10 @@ ghost use Rattle.uss_event.specs.declared.entries.Entry.TheVariants as Enters;
 ghost use Rattle.uss_event.specs.declared.events.Answer.TheVariants as Says;
 ghost use Rattle.uss_event.specs.declared.events.Event.TheVariants as Comes;
 ghost use Rattle.uss_event.specs.declared.events.Said.TheVariants.{Nothing, Answer, Left};
-ghost use Rattle.uss_event.specs.declared.rules.Verdict.TheVariants.{EqualForbidden};
+ghost use Rattle.uss_event.specs.declared.rules.Verdict.TheVariants.{EqualForbidden, HigherStands};
 ghost use Rattle.uss_law_duty.specs.Worked.{ask, opened, heard_open, pending, recorded, cancelling, done, new_book, asked_book, ticket_book, tried_book, held_book, cancelled_book, ending_book, ticket_put, query, put, get, ticket_remove, remove, end_ask, end_opened, end_done, the_ticket, the_reference, planned, missing, exists, keyed, keyed_put, details_of_other, other_reference, other_pair, above, ovn, flight, subscriber};
 ghost use Rattle.uss_law_supplier.specs.Cases.{refused, last_try_book, stale, stale_book, in_the_way, conflict, of_another_job, untagged, unshown, unknown_own, newer_reference, newer_round, asked_newer, of_no_manager, third_pair, details_of_third, first_of_both, both_asked, both_keyed, both_keyed_put, upper_book, upper_pending, upper_put};
-ghost use Rattle.uss_law_duty.specs.Flown.{calls, replies_to, flown_ask, flown_opened, flown_ticket_book, flown_pending, flown_tried_book, flown_put, flown_reference, flown_held, changed, strayed_book, strayed_query, strayed_pending, strayed_put, strayed_tried_book};
+ghost use Rattle.uss_law_duty.specs.Flown.{urgent_pair, staying_book, details_of_urgent, staying, staying_put, calls, replies_to, flown_ask, flown_opened, flown_ticket_book, flown_pending, flown_tried_book, flown_put, flown_reference, flown_held, changed, strayed_book, strayed_query, strayed_pending, strayed_put, strayed_tried_book};
 ghost use Rattle.uss_law_supplier.specs.Flown.{flown_ticket_put};
 ghost use Rattle.uss_law_supplier.specs.Values.{no_round, round_with, leaving_out};
 ghost use Rattle.uss_law_supplier.specs.Worked.{Does, Answers, nothing, waiting, waits, and_heard, found_other, asked_round, asked_other};
@@ -50,8 +50,9 @@ pub fn a_flight_strays_whatever_is_there()
 
 /// A supplier asks others for the details of what is there, one after another, and puts their OVNs into the key of its attempt. A flight
 /// of which its manager holds nothing is left out; one that was heard at this version isn't asked for; and one that the supplier manages
-/// itself is taken from its book, if it is held there. A status of another supplier stops the job. A new query begins a new round: what the
-/// one before had asked for is asked for again.
+/// itself is taken from its book, if it is held there. What stands against the flight ends the job, or, after an attempt, makes it decide;
+/// a flown flight that was there before isn't overruled. A status of another supplier stops the job. A new query begins a new round: what
+/// the one before had asked for is asked for again.
 pub fn a_flight_is_kept_apart()
     ensures found { Does ticket_book (waits 1 query) (replies_to 1 query (Replies.Found (other_reference ∷ []))) None (Goes.Peer details_of_other ∷ []) Nothing asked_other }
     ensures served { Does ticket_book asked_other (Comes.Peer details_of_other (Peers.Served other_pair)) (Some keyed) (calls 1 keyed_put) Nothing (and_heard other_pair (waiting 1 (dss_call 1 keyed_put) asked_round)) }
@@ -70,6 +71,10 @@ pub fn a_flight_is_kept_apart()
         (and_heard other_pair (and_heard third_pair (waiting 1 (dss_call 1 both_keyed_put) both_asked))) }
     ensures found_again { Does ticket_book (waiting 1 (dss_call 1 query) (leaving_out other_reference.flight asked_round)) (replies_to 1 query (Replies.Found (other_reference ∷ []))) None (Goes.Peer details_of_other ∷ []) Nothing asked_other }
     ensures blocked { Does ticket_book asked_other (Comes.Peer details_of_other (Peers.Served in_the_way)) (Some (Enters.Done 1 conflict)) [] (Answer (Says.Conflict other_reference.flight other_reference.manager EqualForbidden)) (and_heard in_the_way nothing) }
+    ensures overruled { Does ticket_book asked_other (Comes.Peer details_of_other (Peers.Served urgent_pair)) (Some (Enters.Done 1 (Ends.Conflict other_reference.flight other_reference.manager HigherStands))) []
+        (Answer (Says.Conflict other_reference.flight other_reference.manager HigherStands)) (and_heard urgent_pair nothing) }
+    ensures excepted { Does staying_book (waiting 3 (Goes.Peer details_of_urgent) asked_round) (Comes.Peer details_of_urgent (Peers.Served urgent_pair)) (Some staying) (calls 3 staying_put) Nothing
+        (and_heard urgent_pair (waiting 3 (dss_call 3 staying_put) asked_round)) }
     ensures blocked_after_an_attempt { Does tried_book asked_other (Comes.Peer details_of_other (Peers.Served in_the_way)) (Some (Enters.Deciding 1 conflict)) (calls 1 ticket_remove) Nothing (and_heard in_the_way (waiting 1 (dss_call 1 ticket_remove) asked_round)) }
 {}
 

@@ -12,7 +12,7 @@ ghost use Rattle.uss_event.specs.declared.events.Said.TheVariants.{Nothing, Pair
 ghost use Rattle.uss_law_duty.specs.Heard.{News as Told};
 ghost use Rattle.uss_law_duty.specs.Flown.{calls, replies_to};
 ghost use Rattle.uss_law_duty.specs.Worked.{new_book, tried_book, held_book, ending_book, owing_book, flight, ticket_remove, put, the_ticket, planned, notify, notified, subscriber, details_of_other, other_reference, other_pair, held_pair, note_of_other, note_of_end};
-ghost use Rattle.uss_law_supplier.specs.Cases.{refused, of_no_manager};
+ghost use Rattle.uss_law_supplier.specs.Cases.{refused, of_no_manager, ended_book};
 ghost use Rattle.uss_law_supplier.specs.Owed.{third_subscriber, chores_book, fewer_chores_book, tells_flown, third_remove, ended_owing, told_of_end};
 ghost use Rattle.uss_law_supplier.specs.Worked.{Does, Answers, nothing, waits, and_heard};
 
@@ -44,6 +44,8 @@ pub fn chores_are_done_once()
 pub fn others_are_served_and_heard()
     ensures served { Answers held_book nothing (Comes.Details (codes "uss2") flight) (Pair (Some held_pair)) }
     ensures none { Answers new_book nothing (Comes.Details (codes "uss2") flight) (Pair None) }
+    ensures ended { Answers ended_book nothing (Comes.Details (codes "uss2") flight) (Pair None) }
+    ensures of_another { Answers held_book nothing (Comes.Details (codes "uss2") other_reference.flight) (Pair None) }
     ensures heard { Does tried_book nothing (Comes.Notified (codes "uss2") note_of_other) None [] Noted (and_heard other_pair nothing) }
     ensures not_its_own { Answers tried_book nothing (Comes.Notified (codes "uss3") note_of_other) NotManager }
     ensures forgotten { Does tried_book nothing (Comes.Notified (codes "uss2") note_of_end) None [] Noted (record nothing { heard = Told.Forgotten other_reference.flight ∷ [] }) }
