@@ -55,6 +55,7 @@ pub fn a_flight_strays_whatever_is_there()
 /// the one before had asked for is asked for again.
 pub fn a_flight_is_kept_apart()
     ensures found { Does ticket_book (waits 1 query) (replies_to 1 query (Replies.Found (other_reference ∷ []))) None (Goes.Peer details_of_other ∷ []) Nothing asked_other }
+    ensures found_anew { Does tried_book (waiting 1 (dss_call 1 query) (leaving_out other_reference.flight asked_round)) (replies_to 1 query (Replies.Found (other_reference ∷ []))) None (Goes.Peer details_of_other ∷ []) Nothing asked_other }
     ensures served { Does ticket_book asked_other (Comes.Peer details_of_other (Peers.Served other_pair)) (Some keyed) (calls 1 keyed_put) Nothing (and_heard other_pair (waiting 1 (dss_call 1 keyed_put) asked_round)) }
     ensures gone { Does ticket_book asked_other (Comes.Peer details_of_other Peers.Gone) (Some pending) (calls 1 put) Nothing (waiting 1 (dss_call 1 put) (leaving_out other_reference.flight asked_round)) }
     ensures heard_and_gone { Does ticket_book (and_heard other_pair asked_newer) (Comes.Peer details_of_other Peers.Gone) (Some pending) (calls 1 put) Nothing (and_heard other_pair (waiting 1 (dss_call 1 put) (leaving_out other_reference.flight newer_round))) }
