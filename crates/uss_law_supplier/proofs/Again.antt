@@ -1,18 +1,16 @@
 -- A request that was answered is answered again.
-use Rattle.std.proofs.Common.{arith, ℕ, ◌==◌, ℤ, Bool, true, false, cond, nat_lt, ◌≡◌, refl, ap, sym, subst, ◌∙◌, Option, Some, None}
+use Rattle.std.proofs.Common.{arith, ℕ, ◌==◌, Bool, false, cond, nat_lt, ◌≡◌, refl, ap, sym, ◌∙◌, Option}
 use Rattle.std.proofs.lemmas.Bool.Decides.{nat_tests}
-use Rattle.uss_event.specs.Same.{differing}
 use Rattle.uss_event.specs.declared.asks.AskField.{AskField}
 use Rattle.uss_event.specs.declared.asks.AskRefusal.TheVariants as Refuses
-use Rattle.uss_event.specs.declared.asks.FlightAsk.{FlightAsk}
 use Rattle.uss_law_book.specs.Lists.{Opening}
-use Rattle.uss_law_book.specs.Readings.{is_closed, last_of}
+use Rattle.uss_law_book.specs.Readings.{is_closed}
 use Rattle.uss_law_dss.proofs.Tests.{equal_number}
 use Rattle.uss_law_duty.specs.Duties.{clamped}
 use Rattle.uss_law_supplier.specs.Turns.{Standing}
 use Rattle.uss_law_supplier.specs.Asks.{refusing, asked_anew, asked_with, asked_after, repeated, repeated_by, asked_for}
 use Rattle.uss_law_supplier.specs.Cancels.{cancelled_after, cancelled_job}
-use Rattle.uss_law_supplier.specs.Again.{IsAnswered, RepeatsAreAnswered, LateCancelsAreAnswered}
+use Rattle.uss_law_supplier.specs.Again.{RepeatsAreAnswered, LateCancelsAreAnswered}
 
 not_less_than_itself : (n : ℕ) → nat_lt n n ≡ false
 not_less_than_itself n = grind (arith, nat_tests)

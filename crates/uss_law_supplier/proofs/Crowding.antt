@@ -1,43 +1,35 @@
 -- A plan is crowded out exactly where its query found too much.
-use Rattle.std.proofs.Common.{ℕ, ◌==◌, ◌<◌, ℤ, Bool, true, false, cond, ◌&&◌, List, length, ◌≡◌, refl, ap, sym, subst, ◌∙◌, Option, Some, None}
-use Rattle.std.specs.Prelude.{nat_lt}
+use Rattle.std.proofs.Common.{ℕ, ◌<◌, Bool, true, cond, ◌&&◌, List, length, ◌≡◌, refl, ap, sym, subst, ◌∙◌, Option, Some}
 use Rattle.std.specs.Option.{option_and_then}
-use Rattle.uss_intent.specs.Same.{same_ask}
 use Rattle.uss_intent.specs.SameLaws.{ask_is_same}
 use Rattle.uss_intent.specs.declared.records.Reference.{Reference}
 use Rattle.uss_intent.specs.declared.calls.DssAsk.{DssAsk}
 use Rattle.uss_intent.specs.declared.calls.DssAsk.TheVariants as Asks
-use Rattle.uss_intent.specs.declared.calls.DssReply.{DssReply}
 use Rattle.uss_intent.specs.declared.calls.DssReply.TheVariants as Replies
 use Rattle.uss_event.specs.Same.{same_call}
 use Rattle.uss_event.specs.declared.entries.Owner.{Owner}
-use Rattle.uss_event.specs.declared.entries.Entry.{Entry}
 use Rattle.uss_event.specs.declared.calls.DssCall.{DssCall}
-use Rattle.uss_event.specs.declared.calls.Outgoing.{Outgoing}
 use Rattle.uss_event.specs.declared.calls.Outgoing.TheVariants as Goes
 use Rattle.uss_event.specs.declared.events.Answer.TheVariants as Answers
-use Rattle.uss_event.specs.declared.events.Said.{Said}
 use Rattle.uss_event.specs.declared.events.Said.TheVariants as Says
 use Rattle.uss_event.specs.declared.events.Event.TheVariants as Comes
 use Rattle.uss_law_dss.specs.Fits.{fits}
 use Rattle.uss_law_dss.proofs.Tests.{equal_number, some_same, less_test}
-use Rattle.uss_law_book.specs.Lists.{Opening, owner_of}
-use Rattle.uss_law_book.specs.Readings.{opening_of, is_closed}
+use Rattle.uss_law_book.specs.Lists.{Opening}
 use Rattle.uss_law_duty.specs.Answers.{flight_of}
 use Rattle.uss_law_duty.specs.Duties.{clamped}
 use Rattle.uss_law_duty.specs.Sayings.{most_looked_at, others, SayingHasCause}
 use Rattle.uss_law_supplier.specs.declared.duties.Awaited.{Awaited}
 use Rattle.uss_law_supplier.specs.declared.duties.Awaited.TheVariants as Waits
 use Rattle.uss_law_supplier.specs.declared.duties.Duty.TheVariants as Duties
-use Rattle.uss_law_supplier.specs.Values.{Values, awaited_of, round_of, round_with, in_round}
+use Rattle.uss_law_supplier.specs.Values.{awaited_of, round_of, round_with, in_round}
 use Rattle.uss_law_supplier.specs.Turns.{Standing, Turn}
 use Rattle.uss_law_supplier.specs.Airspace.{is_left}
 use Rattle.uss_law_supplier.specs.Table.{on_found, next_or_choice, when_awaited}
 use Rattle.uss_law_supplier.specs.Calls.{kind_of, kind_of_ask, is_it}
-use Rattle.uss_law_supplier.specs.Jobs.{keeps_key, view_of, heard_of_dss, round_by_dss, with_values, carry_out, open_by_dss}
+use Rattle.uss_law_supplier.specs.Jobs.{view_of, heard_of_dss, with_values, carry_out, open_by_dss}
 use Rattle.uss_law_supplier.specs.Replies.{of_job_by_dss, replied_to, replied}
 use Rattle.uss_law_supplier.specs.Step.{supplier_step}
-use Rattle.uss_law_supplier.specs.Laws.{IsSound}
 use Rattle.uss_law_supplier.specs.Crowding.{Finds, CrowdedExactly}
 use Rattle.uss_law_supplier.proofs.Waits.{round_awaited}
 use Rattle.uss_law_supplier.proofs.Law.{steps_keep_duties}

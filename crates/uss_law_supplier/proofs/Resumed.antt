@@ -1,5 +1,5 @@
 -- A resumed job does what its table says.
-use Rattle.std.proofs.Common.{ℕ, ℤ, pos, ◌≢◌, Bool, true, false, cond, nat_lt, List, [], ◌∷◌, ◌++◌, length, ◌≡◌, inl, inr, refl, ap, sym, subst, ◌∙◌, Option, Some, None, is_some}
+use Rattle.std.proofs.Common.{ℕ, pos, Bool, true, false, cond, nat_lt, [], ◌∷◌, ◌++◌, ◌≡◌, inl, inr, refl, ap, sym, subst, Option, Some, None}
 use Rattle.std.specs.Option.{option_and_then}
 use Rattle.uss_intent.specs.declared.calls.DssAsk.{DssAsk}
 use Rattle.uss_event.specs.declared.entries.Entry.{Entry}
@@ -8,7 +8,6 @@ use Rattle.uss_event.specs.declared.calls.Outgoing.TheVariants as Goes
 use Rattle.uss_event.specs.declared.events.Event.{Event}
 use Rattle.uss_event.specs.declared.events.Event.TheVariants as Comes
 use Rattle.uss_law_book.specs.Lists.{Opening}
-use Rattle.uss_law_book.specs.Readings.{opening_of, is_closed}
 use Rattle.uss_law_book.proofs.Kept.{opening_has}
 use Rattle.uss_law_supplier.specs.declared.duties.Awaited.{Awaited}
 use Rattle.uss_law_supplier.specs.declared.duties.Awaited.TheVariants as Waits
@@ -17,11 +16,10 @@ use Rattle.uss_law_supplier.specs.declared.duties.Duty.{Duty}
 use Rattle.uss_law_supplier.specs.declared.duties.Duty.TheVariants as Duties
 use Rattle.uss_law_supplier.specs.Values.{awaited_of}
 use Rattle.uss_law_supplier.specs.Turns.{Standing, Turn, dss_call, entered, with_entry}
-use Rattle.uss_law_supplier.specs.Table.{with_ticket, by_book, again_or, resume}
+use Rattle.uss_law_supplier.specs.Table.{with_ticket, by_book, again_or}
 use Rattle.uss_law_supplier.specs.Calls.{kind_of, call_of}
-use Rattle.uss_law_supplier.specs.Jobs.{view_of, making, pending, attempting, call_made, carry_on, going_on, resuming, resuming_by}
+use Rattle.uss_law_supplier.specs.Jobs.{view_of, making, pending, carry_on, resuming_by}
 use Rattle.uss_law_supplier.specs.Fitting.{IsAwaited}
-use Rattle.uss_law_supplier.specs.Laws.{IsSound}
 use Rattle.uss_law_supplier.specs.Resumed.{MakesCall, MakesAttempt, DoesDuty, JobsResumeByTheTable}
 use Rattle.uss_law_supplier.proofs.Onward.{kind_is}
 use Rattle.uss_law_supplier.proofs.Good.{IsGood}

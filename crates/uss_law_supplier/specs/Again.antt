@@ -23,10 +23,11 @@ pub record IsAnswered (book : List Entry) (ask : FlightAsk) (o : Opening) : Type
 -- repeated, it gets the answer that the book keeps, and that is all that comes of it; so does its cancel
 abbrev pub RepeatsAreAnswered : Type 0
 RepeatsAreAnswered =
-    (owner : Owner) (book : List Entry) (values : Values) (moment : ℤ) (ask : FlightAsk) (o : Opening) → plan_refusal ask.wish ≡ None → IsAnswered book ask o
-    → supplier_step owner book values moment (Comes.Ask ask) ≡ saying values (said_of (kept_answer owner o book))
+    (owner : Owner) (book : List Entry) (values : Values) (moment : ℤ) (ask : FlightAsk) (o : Opening) → plan_refusal ask.wish ≡ None
+    → IsAnswered book ask o → supplier_step owner book values moment (Comes.Ask ask) ≡ saying values (said_of (kept_answer owner o book))
 
 abbrev pub LateCancelsAreAnswered : Type 0
 LateCancelsAreAnswered =
-    (owner : Owner) (book : List Entry) (values : Values) (moment : ℤ) (flight : ℕ) (o : Opening) → last_of flight book ≡ Some o → is_closed o.job book ≡ true
+    (owner : Owner) (book : List Entry) (values : Values) (moment : ℤ) (flight : ℕ) (o : Opening) → last_of flight book ≡ Some o
+    → is_closed o.job book ≡ true
     → supplier_step owner book values moment (Comes.Cancel flight o.ask.number) ≡ saying values (said_of (kept_answer owner o book))

@@ -38,7 +38,8 @@ is_of_version version (Some p) = p.reference.version == version
 
 -- another supplier manages the reference, no pair of its version is kept of its flight, and this round hasn't asked for it
 unfoldable pub is_unheard : Owner → List News → Round → Reference → Bool
-is_unheard owner heard round r = not (is_own owner r) && (not (is_one_of r.flight round.asked) && not (is_of_version r.version (kept_pair r.flight heard)))
+is_unheard owner heard round r =
+    not (is_own owner r) && (not (is_one_of r.flight round.asked) && not (is_of_version r.version (kept_pair r.flight heard)))
 
 -- the next reference whose details are to be asked for: the first that was found and is unheard
 abbrev pub next_unheard : Owner → List News → Round → Option Reference
@@ -68,7 +69,8 @@ key_of pairs = filter_map ovn_of pairs
 
 -- the choice of a job, held against these pairs; what is held of its own flight is what it changes
 abbrev pub choice_by : Standing → Opening → List OperationalIntent → Wish → Choice
-choice_by s o pairs (Put to priority rounds proposals) = choice (wanted s.owner.table (flight_of s.owner o) to priority (held o.ask.flight s.book)) proposals pairs
+choice_by s o pairs (Put to priority rounds proposals) =
+    choice (wanted s.owner.table (flight_of s.owner o) to priority (held o.ask.flight s.book)) proposals pairs
 choice_by s o pairs End = Chosen 0
 
 abbrev pub choice_of : Standing → Opening → List OperationalIntent → Choice

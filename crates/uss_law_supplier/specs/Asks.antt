@@ -100,7 +100,8 @@ horizon = pos 2592000000000000
 -- 303: some extent of some alternative ends later than that
 abbrev pub too_far : ℤ → FlightAsk → Option AskRefusal
 too_far moment ask =
-    if list_any (λ (v : Volume4D). int_lt (moment +ℤ horizon) v.end) (all_extents (proposals_of ask.wish)) then Some (Refuses.TooFar (moment +ℤ horizon)) else None
+    if list_any (λ (v : Volume4D). int_lt (moment +ℤ horizon) v.end) (all_extents (proposals_of ask.wish))
+    then Some (Refuses.TooFar (moment +ℤ horizon)) else None
 
 -- the entry that opens a job for the request: the next job
 abbrev pub opening_entry : List Entry → ℤ → FlightAsk → Entry
@@ -115,7 +116,8 @@ full book moment ask =
 -- why a new request is refused: for the first of these that applies
 unfoldable pub new_refusal : List Entry → ℤ → FlightAsk → Option AskRefusal
 new_refusal book moment ask =
-    first_some (busy book ask ∷ ended book ask ∷ unknown book ask ∷ wrong book ask ∷ past moment ask ∷ too_far moment ask ∷ full book moment ask ∷ [])
+    first_some (busy book ask ∷ ended book ask ∷ unknown book ask ∷ wrong book ask ∷ past moment ask ∷ too_far moment ask
+    ∷ full book moment ask ∷ [])
 
 -- what comes of the request
 

@@ -30,7 +30,7 @@ pub record Finds (book : List Entry) (values : Values) (call : DssCall) (referen
 -- it says that it is crowded out, by so many, exactly where so many are of other flights and those are more than a plan looks at
 abbrev pub CrowdedExactly : Type 0
 CrowdedExactly =
-    (owner : Owner) (book : List Entry) (values : Values) (moment : ℤ) (call : DssCall) (references : List Reference) (o : Opening) (count : ℕ) → IsSound owner book values
-    → Finds book values call references o
+    (owner : Owner) (book : List Entry) (values : Values) (moment : ℤ) (call : DssCall) (references : List Reference) (o : Opening)
+    (count : ℕ) → IsSound owner book values → Finds book values call references o
     → ((supplier_step owner book values moment (Comes.Dss call (Replies.Found references))).said ≡ Says.Answer (Answers.Crowded count)
     ↔ (count ≡ length (others (flight_of owner o) references)) × (most_looked_at < count))

@@ -35,7 +35,8 @@ within number = record inside { number = number }
 
 -- the flight is 500 mm above its volume, and may be in the other one
 abbrev pub strays : ℕ → PositionAsk
-strays number = record { flight = 1; number = number; place = record { x = pos 0; y = pos 0 }; altitude = pos 1500; off_nominal = around_it ∷ [] }
+strays number =
+    record { flight = 1; number = number; place = record { x = pos 0; y = pos 0 }; altitude = pos 1500; off_nominal = around_it ∷ [] }
 
 -- it is lost
 abbrev pub losing : ℕ → FlightAsk

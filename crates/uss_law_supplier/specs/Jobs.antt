@@ -106,7 +106,8 @@ owns_tag job book (Some tag) = owns job tag book
 -- what a reply says to a job, once its round is as the reply leaves it; a query's and a peer's with whether a reference is left to be
 -- asked for
 abbrev pub heard_of_dss : Standing → Opening → DssReply → Heard
-heard_of_dss s o (Replies.Found references) = Hears.Found (length (others (flight_of s.owner o) references)) (is_left s.owner s.values.heard (round_of o.job s.values))
+heard_of_dss s o (Replies.Found references) =
+    Hears.Found (length (others (flight_of s.owner o) references)) (is_left s.owner s.values.heard (round_of o.job s.values))
 heard_of_dss s o (Replies.Got reference) = Hears.Got (owns_tag o.job s.book (shown_tag reference))
 heard_of_dss s o (Replies.Landed reference subscribers) = Hears.Landed
 heard_of_dss s o (Replies.Removed reference subscribers) = Hears.Removed
@@ -191,7 +192,8 @@ stopping s o answer = saying (without_job o.job s.values) (Says.Answer answer)
 abbrev pub looking_at : Standing → Opening → Option Reference → Turn
 looking_at s o None = saying s.values Says.Nothing
 looking_at s o (Some r) =
-    calling o.job (Goes.Peer (Calls.Details o.job r.flight r.manager r.base)) (in_round o.job (asking_for r.flight (round_of o.job s.values)) s.values)
+    calling o.job (Goes.Peer (Calls.Details o.job r.flight r.manager r.base))
+    (in_round o.job (asking_for r.flight (round_of o.job s.values)) s.values)
 
 abbrev pub looking : Standing → Opening → Turn
 looking s o = looking_at s o (next_unheard s.owner s.values.heard (round_of o.job s.values))

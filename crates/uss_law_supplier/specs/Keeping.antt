@@ -33,7 +33,8 @@ counted_position false p moment pair = record { flight = p.flight; sighting = si
 
 abbrev pub counted_by : List Entry → PositionAsk → ℤ → Said → Option OperationalIntent → List Counted
 counted_by book p moment said None = []
-counted_by book p moment said (Some pair) = counted_position (is_some (is_numbered p.number (open_job_of p.flight book)) || is_refused said) p moment pair
+counted_by book p moment said (Some pair) =
+    counted_position (is_some (is_numbered p.number (open_job_of p.flight book)) || is_refused said) p moment pair
 
 abbrev pub counted_of : List Entry → Event → ℤ → Said → List Counted
 counted_of book (Comes.Position p) moment said = counted_by book p moment said (held p.flight book)
@@ -42,7 +43,8 @@ counted_of book _ moment said = []
 -- what a job waits for after the step: nothing, or the same as before, or the one call that the step makes
 abbrev pub WaitsThen : Values → ℕ → List Outgoing → Values → Type 0
 WaitsThen before job sends after =
-    (awaited_of job after ≡ None) ⊎ ((awaited_of job after ≡ awaited_of job before) ⊎ ((call : Outgoing) × (awaited_of job after ≡ Some call) × (sends ≡ call ∷ [])))
+    (awaited_of job after ≡ None) ⊎ ((awaited_of job after ≡ awaited_of job before)
+    ⊎ ((call : Outgoing) × (awaited_of job after ≡ Some call) × (sends ≡ call ∷ [])))
 
 -- at most one job gets further, or is stopped
 pub record Advances (before : Values) (job : ℕ) (sends : List Outgoing) (after : Values) : Type 0 where
@@ -57,4 +59,5 @@ pub record Changes (book : List Entry) (before : Values) (moment : ℤ) (event :
 -- so does each step, whatever the book and whatever is kept
 abbrev pub StepsChangeSo : Type 0
 StepsChangeSo =
-    (owner : Owner) (book : List Entry) (values : Values) (moment : ℤ) (event : Event) → Changes book values (clamped moment) event (supplier_step owner book values moment event)
+    (owner : Owner) (book : List Entry) (values : Values) (moment : ℤ) (event : Event)
+    → Changes book values (clamped moment) event (supplier_step owner book values moment event)

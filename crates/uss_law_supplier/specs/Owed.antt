@@ -34,7 +34,8 @@ chores_book =
 
 -- a job tells a subscriber, at a place, of what is held of the flight then
 abbrev pub tells_flown : ℕ → ℕ → Subscriber → Outgoing
-tells_flown job place s = Goes.Peer (Calls.Notify job place s.base (record { flight = flight; pair = Some flown_pair; ticket = s.ticket; index = s.index }))
+tells_flown job place s =
+    Goes.Peer (Calls.Notify job place s.base (record { flight = flight; pair = Some flown_pair; ticket = s.ticket; index = s.index }))
 
 -- the first of each is done
 abbrev pub fewer_chores_book : List Entry

@@ -39,7 +39,8 @@ by_last false = Nonconforming
 
 abbrev pub OthersAreWhereLastSeen : Type 0
 OthersAreWhereLastSeen =
-    (before : List Sighting) (last : Sighting) → (finding (watched (before ++ last ∷ [])) ≡ Contingent) ⊎ (finding (watched (before ++ last ∷ [])) ≡ by_last last.inside)
+    (before : List Sighting) (last : Sighting)
+    → (finding (watched (before ++ last ∷ [])) ≡ Contingent) ⊎ (finding (watched (before ++ last ∷ [])) ≡ by_last last.inside)
 
 -- the counted positions of each flight are in order, and stay so
 abbrev pub IsInOrder : Values → Type 0
@@ -47,4 +48,5 @@ IsInOrder values = (flight : ℕ) → AreInOrder (sightings_of flight values)
 
 abbrev pub PositionsStayInOrder : Type 0
 PositionsStayInOrder =
-    (owner : Owner) (book : List Entry) (values : Values) (moment : ℤ) (event : Event) → IsInOrder values → IsInOrder (supplier_step owner book values moment event).values
+    (owner : Owner) (book : List Entry) (values : Values) (moment : ℤ) (event : Event) → IsInOrder values
+    → IsInOrder (supplier_step owner book values moment event).values

@@ -14,9 +14,11 @@ pub record Sweeps (owner : Owner) (book : List Entry) (values : Values) (moment 
   pub entry : (supplier_step owner book values moment (Comes.Sweep skip)).entry ≡ None
   pub said : (supplier_step owner book values moment (Comes.Sweep skip)).said ≡ Says.Nothing
   pub values_are : (supplier_step owner book values moment (Comes.Sweep skip)).values ≡ values
-  pub in_order : map Some (supplier_step owner book values moment (Comes.Sweep skip)).sends ≡ map (chore_call owner book) (take most_chores (drop skip (chores book)))
+  pub in_order : map Some (supplier_step owner book values moment (Comes.Sweep skip)).sends
+      ≡ map (chore_call owner book) (take most_chores (drop skip (chores book)))
   pub few : length (supplier_step owner book values moment (Comes.Sweep skip)).sends ≤ most_chores
 
 -- so does each sweep of a supplier on a legal book
 abbrev pub SweepsMakeTheirCalls : Type 0
-SweepsMakeTheirCalls = (owner : Owner) (book : List Entry) (values : Values) (moment : ℤ) (skip : ℕ) → IsLegal book → Sweeps owner book values moment skip
+SweepsMakeTheirCalls =
+    (owner : Owner) (book : List Entry) (values : Values) (moment : ℤ) (skip : ℕ) → IsLegal book → Sweeps owner book values moment skip

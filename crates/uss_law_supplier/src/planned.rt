@@ -14,9 +14,19 @@ ghost use Rattle.uss_event.specs.declared.events.Answer.TheVariants as Says;
 ghost use Rattle.uss_event.specs.declared.events.Event.TheVariants as Comes;
 ghost use Rattle.uss_event.specs.declared.events.Said.TheVariants.{Nothing, Answer, Left};
 ghost use Rattle.uss_event.specs.declared.rules.Verdict.TheVariants.{EqualForbidden, HigherStands};
-ghost use Rattle.uss_law_duty.specs.Worked.{ask, opened, heard_open, pending, recorded, cancelling, done, new_book, asked_book, ticket_book, tried_book, held_book, cancelled_book, ending_book, ticket_put, query, put, get, ticket_remove, remove, end_ask, end_opened, end_done, the_ticket, the_reference, planned, missing, exists, keyed, keyed_put, details_of_other, other_reference, other_pair, above, ovn, flight, subscriber};
-ghost use Rattle.uss_law_supplier.specs.Cases.{refused, last_try_book, stale, stale_book, in_the_way, conflict, of_another_job, untagged, unshown, unknown_own, newer_reference, newer_round, asked_newer, of_no_manager, third_pair, details_of_third, first_of_both, both_asked, both_keyed, both_keyed_put, upper_book, upper_pending, upper_put};
-ghost use Rattle.uss_law_duty.specs.Flown.{urgent_pair, staying_book, details_of_urgent, staying, staying_put, calls, replies_to, flown_ask, flown_opened, flown_ticket_book, flown_pending, flown_tried_book, flown_put, flown_reference, flown_held, changed, strayed_book, strayed_query, strayed_pending, strayed_put, strayed_tried_book};
+ghost use Rattle.uss_law_duty.specs.Worked.{ask, opened, heard_open, pending, recorded, cancelling, done, new_book, asked_book};
+ghost use Rattle.uss_law_duty.specs.Worked.{ticket_book, tried_book, held_book, cancelled_book, ending_book, ticket_put, query, put, get};
+ghost use Rattle.uss_law_duty.specs.Worked.{ticket_remove, remove, end_ask, end_opened, end_done, the_ticket, the_reference, planned};
+ghost use Rattle.uss_law_duty.specs.Worked.{missing, exists, keyed, keyed_put, details_of_other, other_reference, other_pair, above, ovn};
+ghost use Rattle.uss_law_duty.specs.Worked.{flight, subscriber};
+ghost use Rattle.uss_law_supplier.specs.Cases.{refused, last_try_book, stale, stale_book, in_the_way, conflict, of_another_job, untagged};
+ghost use Rattle.uss_law_supplier.specs.Cases.{unshown, unknown_own, newer_reference, newer_round, asked_newer, of_no_manager};
+ghost use Rattle.uss_law_supplier.specs.Cases.{third_pair, details_of_third, first_of_both, both_asked, both_keyed, both_keyed_put};
+ghost use Rattle.uss_law_supplier.specs.Cases.{upper_book, upper_pending, upper_put};
+ghost use Rattle.uss_law_duty.specs.Flown.{urgent_pair, staying_book, details_of_urgent, staying, staying_put, calls, replies_to};
+ghost use Rattle.uss_law_duty.specs.Flown.{flown_ask, flown_opened, flown_ticket_book, flown_pending, flown_tried_book, flown_put};
+ghost use Rattle.uss_law_duty.specs.Flown.{flown_reference, flown_held, changed, strayed_book, strayed_query, strayed_pending};
+ghost use Rattle.uss_law_duty.specs.Flown.{strayed_put, strayed_tried_book};
 ghost use Rattle.uss_law_supplier.specs.Flown.{flown_ticket_put};
 ghost use Rattle.uss_law_supplier.specs.Values.{no_round, round_with, leaving_out};
 ghost use Rattle.uss_law_supplier.specs.Worked.{Does, Answers, nothing, waiting, waits, and_heard, found_other, asked_round, asked_other};
@@ -26,26 +36,36 @@ ghost use Rattle.uss_law_supplier.specs.Turns.{dss_call};
 /// recorded in its area; it makes an attempt where nothing is there, and enters what landed.
 pub fn a_flight_is_planned()
     ensures asking { Does new_book nothing (Comes.Ask ask) (Some opened) (calls 1 ticket_put) Nothing (waits 1 ticket_put) }
-    ensures ticket_made { Does asked_book (waits 1 ticket_put) (replies_to 1 ticket_put (Replies.TicketMade the_ticket)) (Some heard_open) (calls 1 query) Nothing (waits 1 query) }
-    ensures ticket_there { Does asked_book (waits 1 ticket_put) (replies_to 1 ticket_put exists) (Some heard_open) (calls 1 query) Nothing (waits 1 query) }
-    ensures nothing_found { Does ticket_book (waits 1 query) (replies_to 1 query (Replies.Found [])) (Some pending) (calls 1 put) Nothing (waits 1 put) }
+    ensures ticket_made { Does asked_book (waits 1 ticket_put) (replies_to 1 ticket_put (Replies.TicketMade the_ticket)) (Some heard_open)
+        (calls 1 query) Nothing (waits 1 query) }
+    ensures ticket_there { Does asked_book (waits 1 ticket_put) (replies_to 1 ticket_put exists) (Some heard_open) (calls 1 query) Nothing
+        (waits 1 query) }
+    ensures nothing_found { Does ticket_book (waits 1 query) (replies_to 1 query (Replies.Found [])) (Some pending) (calls 1 put) Nothing
+        (waits 1 put) }
     ensures landed { Does tried_book (waits 1 put) (replies_to 1 put (Replies.Landed the_reference [])) (Some recorded) [] planned nothing }
-    ensures landed_owing { Does tried_book (waits 1 put) (replies_to 1 put (Replies.Landed the_reference (subscriber ∷ []))) (Some (Enters.Held 1 1 ovn 1 (subscriber ∷ []))) [] planned nothing }
+    ensures landed_owing { Does tried_book (waits 1 put) (replies_to 1 put (Replies.Landed the_reference (subscriber ∷ [])))
+        (Some (Enters.Held 1 1 ovn 1 (subscriber ∷ []))) [] planned nothing }
 {}
 
 /// A held flight is changed from what is held of it: the Put names that OVN. The flight's own reference is found and doesn't count.
 pub fn a_flight_is_changed()
-    ensures asking { Does held_book nothing (Comes.Ask flown_ask) (Some flown_opened) (calls 2 flown_ticket_put) Nothing (waits 2 flown_ticket_put) }
-    ensures itself_found { Does flown_ticket_book (waits 2 query) (replies_to 2 query (Replies.Found (the_reference ∷ []))) (Some flown_pending) (calls 2 flown_put) Nothing (waits 2 flown_put) }
-    ensures landed { Does flown_tried_book (waits 2 flown_put) (replies_to 2 flown_put (Replies.Landed flown_reference [])) (Some flown_held) [] changed nothing }
-    ensures got { Does flown_tried_book (waits 2 get) (replies_to 2 get (Replies.Got flown_reference)) (Some flown_held) [] changed nothing }
+    ensures asking { Does held_book nothing (Comes.Ask flown_ask) (Some flown_opened) (calls 2 flown_ticket_put) Nothing
+        (waits 2 flown_ticket_put) }
+    ensures itself_found { Does flown_ticket_book (waits 2 query) (replies_to 2 query (Replies.Found (the_reference ∷ [])))
+        (Some flown_pending) (calls 2 flown_put) Nothing (waits 2 flown_put) }
+    ensures landed { Does flown_tried_book (waits 2 flown_put) (replies_to 2 flown_put (Replies.Landed flown_reference []))
+        (Some flown_held) [] changed nothing }
+    ensures got { Does flown_tried_book (waits 2 get) (replies_to 2 get (Replies.Got flown_reference)) (Some flown_held) [] changed
+        nothing }
 {}
 
 /// A flight that strays isn't held against others: whatever is found, it makes its attempt with an empty key, and stops where that is
 /// said to lack something.
 pub fn a_flight_strays_whatever_is_there()
-    ensures found { Does strayed_book (waits 3 strayed_query) (replies_to 3 strayed_query (Replies.Found (other_reference ∷ []))) (Some strayed_pending) (calls 3 strayed_put) Nothing (waiting 3 (dss_call 3 strayed_put) found_other) }
-    ensures lacked { Does strayed_tried_book (waits 3 strayed_put) (replies_to 3 strayed_put missing) None [] (Answer (Says.DssRefused 209)) nothing }
+    ensures found { Does strayed_book (waits 3 strayed_query) (replies_to 3 strayed_query (Replies.Found (other_reference ∷ [])))
+        (Some strayed_pending) (calls 3 strayed_put) Nothing (waiting 3 (dss_call 3 strayed_put) found_other) }
+    ensures lacked { Does strayed_tried_book (waits 3 strayed_put) (replies_to 3 strayed_put missing) None []
+        (Answer (Says.DssRefused 209)) nothing }
 {}
 
 /// A supplier asks others for the details of what is there, one after another, and puts their OVNs into the key of its attempt. A flight
@@ -54,28 +74,48 @@ pub fn a_flight_strays_whatever_is_there()
 /// a flown flight that was there before isn't overruled. A status of another supplier stops the job. A new query begins a new round: what
 /// the one before had asked for is asked for again.
 pub fn a_flight_is_kept_apart()
-    ensures found { Does ticket_book (waits 1 query) (replies_to 1 query (Replies.Found (other_reference ∷ []))) None (Goes.Peer details_of_other ∷ []) Nothing asked_other }
-    ensures served { Does ticket_book asked_other (Comes.Peer details_of_other (Peers.Served other_pair)) (Some keyed) (calls 1 keyed_put) Nothing (and_heard other_pair (waiting 1 (dss_call 1 keyed_put) asked_round)) }
-    ensures gone { Does ticket_book asked_other (Comes.Peer details_of_other Peers.Gone) (Some pending) (calls 1 put) Nothing (waiting 1 (dss_call 1 put) (leaving_out other_reference.flight asked_round)) }
-    ensures heard_and_gone { Does ticket_book (and_heard other_pair asked_newer) (Comes.Peer details_of_other Peers.Gone) (Some pending) (calls 1 put) Nothing (and_heard other_pair (waiting 1 (dss_call 1 put) (leaving_out other_reference.flight newer_round))) }
-    ensures status { Does ticket_book asked_other (Comes.Peer details_of_other (Peers.Status 500)) None [] (Answer (Says.PeerRefused other_reference.manager 500)) nothing }
-    ensures heard_before { Does ticket_book (and_heard other_pair (waits 1 query)) (replies_to 1 query (Replies.Found (other_reference ∷ []))) (Some keyed) (calls 1 keyed_put) Nothing (and_heard other_pair (waiting 1 (dss_call 1 keyed_put) found_other)) }
-    ensures heard_older { Does ticket_book (and_heard other_pair (waits 1 query)) (replies_to 1 query (Replies.Found (newer_reference ∷ []))) None (Goes.Peer details_of_other ∷ []) Nothing (and_heard other_pair asked_newer) }
-    ensures own_held { Does upper_book (waits 2 (Asks.Query above)) (replies_to 2 (Asks.Query above) (Replies.Found (the_reference ∷ []))) (Some upper_pending) (calls 2 upper_put) Nothing (waiting 2 (dss_call 2 upper_put) (round_with (the_reference ∷ []))) }
-    ensures own_unknown { Does ticket_book (waits 1 query) (replies_to 1 query (Replies.Found (unknown_own ∷ []))) (Some pending) (calls 1 put) Nothing (waiting 1 (dss_call 1 put) (round_with (unknown_own ∷ []))) }
-    ensures next { Does ticket_book (waiting 1 (Goes.Peer details_of_other) first_of_both) (Comes.Peer details_of_other (Peers.Served other_pair)) None (Goes.Peer details_of_third ∷ []) Nothing
+    ensures found { Does ticket_book (waits 1 query) (replies_to 1 query (Replies.Found (other_reference ∷ []))) None
+        (Goes.Peer details_of_other ∷ []) Nothing asked_other }
+    ensures served { Does ticket_book asked_other (Comes.Peer details_of_other (Peers.Served other_pair)) (Some keyed) (calls 1 keyed_put)
+        Nothing (and_heard other_pair (waiting 1 (dss_call 1 keyed_put) asked_round)) }
+    ensures gone { Does ticket_book asked_other (Comes.Peer details_of_other Peers.Gone) (Some pending) (calls 1 put) Nothing
+        (waiting 1 (dss_call 1 put) (leaving_out other_reference.flight asked_round)) }
+    ensures heard_and_gone { Does ticket_book (and_heard other_pair asked_newer) (Comes.Peer details_of_other Peers.Gone) (Some pending)
+        (calls 1 put) Nothing (and_heard other_pair (waiting 1 (dss_call 1 put) (leaving_out other_reference.flight newer_round))) }
+    ensures status { Does ticket_book asked_other (Comes.Peer details_of_other (Peers.Status 500)) None []
+        (Answer (Says.PeerRefused other_reference.manager 500)) nothing }
+    ensures heard_before { Does ticket_book (and_heard other_pair (waits 1 query))
+        (replies_to 1 query (Replies.Found (other_reference ∷ []))) (Some keyed) (calls 1 keyed_put) Nothing
+        (and_heard other_pair (waiting 1 (dss_call 1 keyed_put) found_other)) }
+    ensures heard_older { Does ticket_book (and_heard other_pair (waits 1 query))
+        (replies_to 1 query (Replies.Found (newer_reference ∷ []))) None (Goes.Peer details_of_other ∷ []) Nothing
+        (and_heard other_pair asked_newer) }
+    ensures own_held { Does upper_book (waits 2 (Asks.Query above)) (replies_to 2 (Asks.Query above) (Replies.Found (the_reference ∷ [])))
+        (Some upper_pending) (calls 2 upper_put) Nothing (waiting 2 (dss_call 2 upper_put) (round_with (the_reference ∷ []))) }
+    ensures own_unknown { Does ticket_book (waits 1 query) (replies_to 1 query (Replies.Found (unknown_own ∷ []))) (Some pending)
+        (calls 1 put) Nothing (waiting 1 (dss_call 1 put) (round_with (unknown_own ∷ []))) }
+    ensures next { Does ticket_book (waiting 1 (Goes.Peer details_of_other) first_of_both)
+        (Comes.Peer details_of_other (Peers.Served other_pair)) None (Goes.Peer details_of_third ∷ []) Nothing
         (and_heard other_pair (waiting 1 (Goes.Peer details_of_third) both_asked)) }
-    ensures next_though_gone { Does ticket_book (waiting 1 (Goes.Peer details_of_other) first_of_both) (Comes.Peer details_of_other Peers.Gone) None (Goes.Peer details_of_third ∷ []) Nothing
+    ensures next_though_gone { Does ticket_book (waiting 1 (Goes.Peer details_of_other) first_of_both)
+        (Comes.Peer details_of_other Peers.Gone) None (Goes.Peer details_of_third ∷ []) Nothing
         (waiting 1 (Goes.Peer details_of_third) (leaving_out other_reference.flight both_asked)) }
-    ensures both_served { Does ticket_book (and_heard other_pair (waiting 1 (Goes.Peer details_of_third) both_asked)) (Comes.Peer details_of_third (Peers.Served third_pair)) (Some both_keyed) (calls 1 both_keyed_put) Nothing
+    ensures both_served { Does ticket_book (and_heard other_pair (waiting 1 (Goes.Peer details_of_third) both_asked))
+        (Comes.Peer details_of_third (Peers.Served third_pair)) (Some both_keyed) (calls 1 both_keyed_put) Nothing
         (and_heard other_pair (and_heard third_pair (waiting 1 (dss_call 1 both_keyed_put) both_asked))) }
-    ensures found_again { Does ticket_book (waiting 1 (dss_call 1 query) (leaving_out other_reference.flight asked_round)) (replies_to 1 query (Replies.Found (other_reference ∷ []))) None (Goes.Peer details_of_other ∷ []) Nothing asked_other }
-    ensures blocked { Does ticket_book asked_other (Comes.Peer details_of_other (Peers.Served in_the_way)) (Some (Enters.Done 1 conflict)) [] (Answer (Says.Conflict other_reference.flight other_reference.manager EqualForbidden)) (and_heard in_the_way nothing) }
-    ensures overruled { Does ticket_book asked_other (Comes.Peer details_of_other (Peers.Served urgent_pair)) (Some (Enters.Done 1 (Ends.Conflict other_reference.flight other_reference.manager HigherStands))) []
+    ensures found_again { Does ticket_book (waiting 1 (dss_call 1 query) (leaving_out other_reference.flight asked_round))
+        (replies_to 1 query (Replies.Found (other_reference ∷ []))) None (Goes.Peer details_of_other ∷ []) Nothing asked_other }
+    ensures blocked { Does ticket_book asked_other (Comes.Peer details_of_other (Peers.Served in_the_way)) (Some (Enters.Done 1 conflict))
+        [] (Answer (Says.Conflict other_reference.flight other_reference.manager EqualForbidden)) (and_heard in_the_way nothing) }
+    ensures overruled { Does ticket_book asked_other (Comes.Peer details_of_other (Peers.Served urgent_pair))
+        (Some (Enters.Done 1 (Ends.Conflict other_reference.flight other_reference.manager HigherStands))) []
         (Answer (Says.Conflict other_reference.flight other_reference.manager HigherStands)) (and_heard urgent_pair nothing) }
-    ensures excepted { Does staying_book (waiting 3 (Goes.Peer details_of_urgent) asked_round) (Comes.Peer details_of_urgent (Peers.Served urgent_pair)) (Some staying) (calls 3 staying_put) Nothing
+    ensures excepted { Does staying_book (waiting 3 (Goes.Peer details_of_urgent) asked_round)
+        (Comes.Peer details_of_urgent (Peers.Served urgent_pair)) (Some staying) (calls 3 staying_put) Nothing
         (and_heard urgent_pair (waiting 3 (dss_call 3 staying_put) asked_round)) }
-    ensures blocked_after_an_attempt { Does tried_book asked_other (Comes.Peer details_of_other (Peers.Served in_the_way)) (Some (Enters.Deciding 1 conflict)) (calls 1 ticket_remove) Nothing (and_heard in_the_way (waiting 1 (dss_call 1 ticket_remove) asked_round)) }
+    ensures blocked_after_an_attempt { Does tried_book asked_other (Comes.Peer details_of_other (Peers.Served in_the_way))
+        (Some (Enters.Deciding 1 conflict)) (calls 1 ticket_remove) Nothing
+        (and_heard in_the_way (waiting 1 (dss_call 1 ticket_remove) asked_round)) }
 {}
 
 /// A job goes on in its next round where its key lacked something, and makes no further attempt where no round is left. Where its Put was
@@ -83,16 +123,22 @@ pub fn a_flight_is_kept_apart()
 /// refusal, and where its flight has another tag, or none, or shows no OVN.
 pub fn a_job_goes_on()
     ensures lacked { Does tried_book (waits 1 put) (replies_to 1 put missing) None (calls 1 query) Nothing (waits 1 query) }
-    ensures last_round { Does last_try_book (waits 1 put) (replies_to 1 put missing) (Some (Enters.Deciding 1 stale)) (calls 1 ticket_remove) Nothing (waits 1 ticket_remove) }
+    ensures last_round { Does last_try_book (waits 1 put) (replies_to 1 put missing) (Some (Enters.Deciding 1 stale))
+        (calls 1 ticket_remove) Nothing (waits 1 ticket_remove) }
     ensures there { Does tried_book (waits 1 put) (replies_to 1 put exists) None (calls 1 get) Nothing (waits 1 get) }
-    ensures stale_ovn { Does tried_book (waits 1 put) (replies_to 1 put (refused Refusals.StaleOvn)) None (calls 1 get) Nothing (waits 1 get) }
+    ensures stale_ovn { Does tried_book (waits 1 put) (replies_to 1 put (refused Refusals.StaleOvn)) None (calls 1 get) Nothing
+        (waits 1 get) }
     ensures got { Does tried_book (waits 1 get) (replies_to 1 get (Replies.Got the_reference)) (Some recorded) [] planned nothing }
-    ensures of_another_job { Does tried_book (waits 1 get) (replies_to 1 get (Replies.Got of_another_job)) None [] (Answer (Says.Unsettled 7)) nothing }
+    ensures of_another_job { Does tried_book (waits 1 get) (replies_to 1 get (Replies.Got of_another_job)) None []
+        (Answer (Says.Unsettled 7)) nothing }
     ensures untagged { Does tried_book (waits 1 get) (replies_to 1 get (Replies.Got untagged)) None [] (Answer (Says.Unsettled 0)) nothing }
     ensures unshown { Does tried_book (waits 1 get) (replies_to 1 get (Replies.Got unshown)) None [] (Answer (Says.Unsettled 0)) nothing }
-    ensures ticket_refused { Does asked_book (waits 1 ticket_put) (replies_to 1 ticket_put (refused (Refusals.Full 8192))) None [] (Answer (Says.DssRefused 211)) nothing }
-    ensures put_refused { Does tried_book (waits 1 put) (replies_to 1 put (refused (Refusals.Full 4096))) None [] (Answer (Says.DssRefused 211)) nothing }
-    ensures get_refused { Does tried_book (waits 1 get) (replies_to 1 get (refused Refusals.Absent)) None [] (Answer (Says.DssRefused 205)) nothing }
+    ensures ticket_refused { Does asked_book (waits 1 ticket_put) (replies_to 1 ticket_put (refused (Refusals.Full 8192))) None []
+        (Answer (Says.DssRefused 211)) nothing }
+    ensures put_refused { Does tried_book (waits 1 put) (replies_to 1 put (refused (Refusals.Full 4096))) None []
+        (Answer (Says.DssRefused 211)) nothing }
+    ensures get_refused { Does tried_book (waits 1 get) (replies_to 1 get (refused Refusals.Absent)) None []
+        (Answer (Says.DssRefused 205)) nothing }
 {}
 
 /// A job that waits for nothing, as after a restart, goes on by its book when its request comes again; one that waits for a call makes
@@ -104,29 +150,39 @@ pub fn a_job_is_resumed()
     ensures deciding { Does cancelled_book nothing (Comes.Ask ask) None (calls 1 ticket_remove) Nothing (waits 1 ticket_remove) }
     ensures ending { Does ending_book nothing (Comes.Ask end_ask) None (calls 2 remove) Nothing (waits 2 remove) }
     ensures awaiting { Does tried_book asked_other (Comes.Ask ask) None (Goes.Peer details_of_other ∷ []) Nothing asked_other }
-    ensures not_awaited { Does cancelled_book (waits 1 ticket_remove) (replies_to 1 put (refused (Refusals.Full 4096))) None (calls 1 ticket_remove) Nothing (waits 1 ticket_remove) }
-    ensures not_awaited_details { Does ticket_book asked_other (Comes.Peer details_of_third Peers.Gone) None (Goes.Peer details_of_other ∷ []) Nothing asked_other }
+    ensures not_awaited { Does cancelled_book (waits 1 ticket_remove) (replies_to 1 put (refused (Refusals.Full 4096))) None
+        (calls 1 ticket_remove) Nothing (waits 1 ticket_remove) }
+    ensures not_awaited_details { Does ticket_book asked_other (Comes.Peer details_of_third Peers.Gone) None
+        (Goes.Peer details_of_other ∷ []) Nothing asked_other }
     ensures not_awaited_by_book { Does tried_book nothing (replies_to 1 query (Replies.Found [])) None (calls 1 put) Nothing (waits 1 put) }
-    ensures unfitting { Does tried_book (waits 1 put) (replies_to 1 put (Replies.Landed of_another_job [])) None (calls 1 put) Nothing (waits 1 put) }
+    ensures unfitting { Does tried_book (waits 1 put) (replies_to 1 put (Replies.Landed of_another_job [])) None (calls 1 put) Nothing
+        (waits 1 put) }
     ensures of_another_kind { Does tried_book (waits 1 get) (replies_to 1 get (Replies.Found [])) None (calls 1 get) Nothing (waits 1 get) }
-    ensures unfitting_pair { Does ticket_book asked_other (Comes.Peer details_of_other (Peers.Served of_no_manager)) None (Goes.Peer details_of_other ∷ []) Nothing asked_other }
+    ensures unfitting_pair { Does ticket_book asked_other (Comes.Peer details_of_other (Peers.Served of_no_manager)) None
+        (Goes.Peer details_of_other ∷ []) Nothing asked_other }
 {}
 
 /// A job that makes no further attempt ends once its ticket is gone, now or before; where an attempt's reference cites the ticket, it asks
 /// for that. Any other refusal stops it.
 pub fn a_job_gives_up()
-    ensures gone { Does cancelled_book (waits 1 ticket_remove) (replies_to 1 ticket_remove (Replies.TicketRemoved the_ticket)) (Some done) [] (Answer Says.Cancelled) nothing }
-    ensures gone_before { Does stale_book (waits 1 ticket_remove) (replies_to 1 ticket_remove (refused Refusals.Retired)) (Some (Enters.Done 1 stale)) [] (Answer (Says.Stale (2 ∷ []))) nothing }
-    ensures in_use { Does stale_book (waits 1 ticket_remove) (replies_to 1 ticket_remove (refused Refusals.TicketInUse)) None (calls 1 get) Nothing (waits 1 get) }
-    ensures landed_after_all { Does stale_book (waits 1 get) (replies_to 1 get (Replies.Got the_reference)) (Some recorded) [] planned nothing }
-    ensures ticket_refused { Does stale_book (waits 1 ticket_remove) (replies_to 1 ticket_remove (refused Refusals.Absent)) None [] (Answer (Says.DssRefused 205)) nothing }
+    ensures gone { Does cancelled_book (waits 1 ticket_remove) (replies_to 1 ticket_remove (Replies.TicketRemoved the_ticket)) (Some done)
+        [] (Answer Says.Cancelled) nothing }
+    ensures gone_before { Does stale_book (waits 1 ticket_remove) (replies_to 1 ticket_remove (refused Refusals.Retired))
+        (Some (Enters.Done 1 stale)) [] (Answer (Says.Stale (2 ∷ []))) nothing }
+    ensures in_use { Does stale_book (waits 1 ticket_remove) (replies_to 1 ticket_remove (refused Refusals.TicketInUse)) None
+        (calls 1 get) Nothing (waits 1 get) }
+    ensures landed_after_all { Does stale_book (waits 1 get) (replies_to 1 get (Replies.Got the_reference)) (Some recorded) [] planned
+        nothing }
+    ensures ticket_refused { Does stale_book (waits 1 ticket_remove) (replies_to 1 ticket_remove (refused Refusals.Absent)) None []
+        (Answer (Says.DssRefused 205)) nothing }
 {}
 
 /// A request is cancelled at once where its job made no attempt, and else once the attempt's ticket is gone. An End, and a job that makes
 /// no further attempt, are resumed; a closed job gives its answer.
 pub fn a_request_is_cancelled()
     ensures untried { Does asked_book (waits 1 ticket_put) (Comes.Cancel 1 1) (Some done) [] (Answer Says.Cancelled) nothing }
-    ensures tried { Does tried_book (waits 1 put) (Comes.Cancel 1 1) (Some cancelling) (calls 1 ticket_remove) Nothing (waits 1 ticket_remove) }
+    ensures tried { Does tried_book (waits 1 put) (Comes.Cancel 1 1) (Some cancelling) (calls 1 ticket_remove) Nothing
+        (waits 1 ticket_remove) }
     ensures end { Does ending_book nothing (Comes.Cancel 1 2) None (calls 2 remove) Nothing (waits 2 remove) }
     ensures deciding { Does cancelled_book nothing (Comes.Cancel 1 1) None (calls 1 ticket_remove) Nothing (waits 1 ticket_remove) }
     ensures deciding_and_waiting { Does cancelled_book (waits 1 get) (Comes.Cancel 1 1) None (calls 1 get) Nothing (waits 1 get) }
@@ -136,10 +192,14 @@ pub fn a_request_is_cancelled()
 /// A flight ends once its reference is gone, now or before; whoever subscribed to it is to be told.
 pub fn a_flight_ends()
     ensures asking { Does held_book nothing (Comes.Ask end_ask) (Some end_opened) (calls 2 remove) Nothing (waits 2 remove) }
-    ensures gone { Does ending_book (waits 2 remove) (replies_to 2 remove (Replies.Removed the_reference [])) (Some end_done) [] (Answer (Says.Ended flight)) nothing }
-    ensures gone_owing { Does ending_book (waits 2 remove) (replies_to 2 remove (Replies.Removed the_reference (subscriber ∷ []))) (Some (Enters.Done 2 (Ends.Ended (subscriber ∷ [])))) [] (Answer (Says.Ended flight)) nothing }
-    ensures gone_before { Does ending_book (waits 2 remove) (replies_to 2 remove (refused Refusals.Retired)) (Some end_done) [] (Answer (Says.Ended flight)) nothing }
-    ensures remove_refused { Does ending_book (waits 2 remove) (replies_to 2 remove (refused Refusals.StaleOvn)) None [] (Answer (Says.DssRefused 206)) nothing }
+    ensures gone { Does ending_book (waits 2 remove) (replies_to 2 remove (Replies.Removed the_reference [])) (Some end_done) []
+        (Answer (Says.Ended flight)) nothing }
+    ensures gone_owing { Does ending_book (waits 2 remove) (replies_to 2 remove (Replies.Removed the_reference (subscriber ∷ [])))
+        (Some (Enters.Done 2 (Ends.Ended (subscriber ∷ [])))) [] (Answer (Says.Ended flight)) nothing }
+    ensures gone_before { Does ending_book (waits 2 remove) (replies_to 2 remove (refused Refusals.Retired)) (Some end_done) []
+        (Answer (Says.Ended flight)) nothing }
+    ensures remove_refused { Does ending_book (waits 2 remove) (replies_to 2 remove (refused Refusals.StaleOvn)) None []
+        (Answer (Says.DssRefused 206)) nothing }
 {}
 
 /// A closed job gives the answer again that its book keeps, to its request and to a late reply. A reply to a job that was never opened
@@ -148,6 +208,7 @@ pub fn a_closed_job_answers_again()
     ensures repeated { Answers held_book nothing (Comes.Ask ask) planned }
     ensures landed_twice { Answers held_book nothing (replies_to 1 put (Replies.Landed the_reference [])) planned }
     ensures never_opened { Answers new_book nothing (replies_to 1 query (Replies.Found [])) Nothing }
-    ensures left { Does tried_book (waits 1 put) (Comes.Failed 1) None [] (Left (1 ∷ [])) (record nothing { jobs = record { job = 1; awaited = None; round = no_round } ∷ [] }) }
+    ensures left { Does tried_book (waits 1 put) (Comes.Failed 1) None [] (Left (1 ∷ []))
+        (record nothing { jobs = record { job = 1; awaited = None; round = no_round } ∷ [] }) }
     ensures left_with_none { Answers tried_book nothing (Comes.Failed 9) (Left []) }
 {}

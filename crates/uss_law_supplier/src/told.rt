@@ -11,20 +11,26 @@ ghost use Rattle.uss_event.specs.declared.events.Event.TheVariants as Comes;
 ghost use Rattle.uss_event.specs.declared.events.Said.TheVariants.{Nothing, Pair, Noted, NotManager};
 ghost use Rattle.uss_law_duty.specs.Heard.{News as Told};
 ghost use Rattle.uss_law_duty.specs.Flown.{calls, replies_to};
-ghost use Rattle.uss_law_duty.specs.Worked.{new_book, tried_book, held_book, ending_book, owing_book, flight, ticket_remove, put, the_ticket, planned, notify, notified, subscriber, details_of_other, other_reference, other_pair, held_pair, note_of_other, note_of_end};
+ghost use Rattle.uss_law_duty.specs.Worked.{new_book, tried_book, held_book, ending_book, owing_book, flight, ticket_remove, put};
+ghost use Rattle.uss_law_duty.specs.Worked.{the_ticket, planned, notify, notified, subscriber, details_of_other, other_reference};
+ghost use Rattle.uss_law_duty.specs.Worked.{other_pair, held_pair, note_of_other, note_of_end};
 ghost use Rattle.uss_law_supplier.specs.Cases.{refused, of_no_manager, ended_book};
-ghost use Rattle.uss_law_supplier.specs.Owed.{third_subscriber, chores_book, fewer_chores_book, tells_flown, third_remove, ended_owing, told_of_end};
+ghost use Rattle.uss_law_supplier.specs.Owed.{third_subscriber, chores_book, fewer_chores_book, tells_flown, third_remove, ended_owing};
+ghost use Rattle.uss_law_supplier.specs.Owed.{told_of_end};
 ghost use Rattle.uss_law_supplier.specs.Worked.{Does, Answers, nothing, waits, and_heard};
 
 /// A sweep makes the calls of chores: what is to be told, by job and place, and then the tickets to be taken out, by job; from so many on.
 /// A note says what is held at that moment, or that the flight has ended.
 pub fn a_sweep_makes_the_calls_of_chores()
     ensures one { Does owing_book nothing (Comes.Sweep 0) None (Goes.Peer notify ∷ []) Nothing nothing }
-    ensures in_order { Does chores_book nothing (Comes.Sweep 0) None (tells_flown 1 0 subscriber ∷ tells_flown 1 1 third_subscriber ∷ tells_flown 2 0 subscriber ∷ calls 1 ticket_remove ++ calls 3 third_remove) Nothing nothing }
+    ensures in_order { Does chores_book nothing (Comes.Sweep 0) None (tells_flown 1 0 subscriber ∷ tells_flown 1 1 third_subscriber ∷
+        tells_flown 2 0 subscriber ∷ calls 1 ticket_remove ++ calls 3 third_remove) Nothing nothing }
     ensures from_the_third { Does chores_book nothing (Comes.Sweep 3) None (calls 1 ticket_remove ++ calls 3 third_remove) Nothing nothing }
     ensures none_left { Does chores_book nothing (Comes.Sweep 5) None [] Nothing nothing }
-    ensures some_done { Does fewer_chores_book nothing (Comes.Sweep 0) None (tells_flown 1 1 third_subscriber ∷ tells_flown 2 0 subscriber ∷ calls 3 third_remove) Nothing nothing }
-    ensures of_the_end { Does (ending_book ++ ended_owing ∷ []) nothing (Comes.Sweep 0) None (Goes.Peer told_of_end ∷ calls 1 ticket_remove) Nothing nothing }
+    ensures some_done { Does fewer_chores_book nothing (Comes.Sweep 0) None
+        (tells_flown 1 1 third_subscriber ∷ tells_flown 2 0 subscriber ∷ calls 3 third_remove) Nothing nothing }
+    ensures of_the_end { Does (ending_book ++ ended_owing ∷ []) nothing (Comes.Sweep 0) None
+        (Goes.Peer told_of_end ∷ calls 1 ticket_remove) Nothing nothing }
     ensures beside_an_open_job { Does tried_book (waits 1 put) (Comes.Sweep 0) None [] Nothing (waits 1 put) }
 {}
 
@@ -33,8 +39,10 @@ pub fn chores_are_done_once()
     ensures told { Does owing_book nothing (Comes.Peer notify Peers.Noted) (Some notified) [] Nothing nothing }
     ensures told_before { Answers (owing_book ++ notified ∷ []) nothing (Comes.Peer notify Peers.Noted) planned }
     ensures not_told { Answers owing_book nothing (Comes.Peer notify (Peers.Status 500)) planned }
-    ensures taken_out { Does chores_book nothing (replies_to 1 ticket_remove (Replies.TicketRemoved the_ticket)) (Some (Enters.TicketGone 1)) [] Nothing nothing }
-    ensures taken_out_before { Does chores_book nothing (replies_to 1 ticket_remove (refused Refusals.Retired)) (Some (Enters.TicketGone 1)) [] Nothing nothing }
+    ensures taken_out { Does chores_book nothing (replies_to 1 ticket_remove (Replies.TicketRemoved the_ticket))
+        (Some (Enters.TicketGone 1)) [] Nothing nothing }
+    ensures taken_out_before { Does chores_book nothing (replies_to 1 ticket_remove (refused Refusals.Retired))
+        (Some (Enters.TicketGone 1)) [] Nothing nothing }
     ensures heard_before { Answers fewer_chores_book nothing (replies_to 1 ticket_remove (Replies.TicketRemoved the_ticket)) planned }
     ensures still_needed { Answers held_book nothing (replies_to 1 ticket_remove (Replies.TicketRemoved the_ticket)) planned }
     ensures still_cited { Answers chores_book nothing (replies_to 1 ticket_remove (refused Refusals.TicketInUse)) planned }
@@ -48,14 +56,18 @@ pub fn others_are_served_and_heard()
     ensures of_another { Answers held_book nothing (Comes.Details (codes "uss2") other_reference.flight) (Pair None) }
     ensures heard { Does tried_book nothing (Comes.Notified (codes "uss2") note_of_other) None [] Noted (and_heard other_pair nothing) }
     ensures not_its_own { Answers tried_book nothing (Comes.Notified (codes "uss3") note_of_other) NotManager }
-    ensures forgotten { Does tried_book nothing (Comes.Notified (codes "uss2") note_of_end) None [] Noted (record nothing { heard = Told.Forgotten other_reference.flight ∷ [] }) }
+    ensures forgotten { Does tried_book nothing (Comes.Notified (codes "uss2") note_of_end) None [] Noted
+        (record nothing { heard = Told.Forgotten other_reference.flight ∷ [] }) }
 {}
 
 /// A served pair that fits its call is heard, whether the job is open, closed or was never opened; one that doesn't fit isn't.
 pub fn served_pairs_are_heard()
-    ensures not_awaited { Does tried_book (waits 1 put) (Comes.Peer details_of_other (Peers.Served other_pair)) None (calls 1 put) Nothing (and_heard other_pair (waits 1 put)) }
-    ensures closed { Does held_book nothing (Comes.Peer details_of_other (Peers.Served other_pair)) None [] planned (and_heard other_pair nothing) }
-    ensures never_opened { Does new_book nothing (Comes.Peer details_of_other (Peers.Served other_pair)) None [] Nothing (and_heard other_pair nothing) }
+    ensures not_awaited { Does tried_book (waits 1 put) (Comes.Peer details_of_other (Peers.Served other_pair)) None (calls 1 put) Nothing
+        (and_heard other_pair (waits 1 put)) }
+    ensures closed { Does held_book nothing (Comes.Peer details_of_other (Peers.Served other_pair)) None [] planned
+        (and_heard other_pair nothing) }
+    ensures never_opened { Does new_book nothing (Comes.Peer details_of_other (Peers.Served other_pair)) None [] Nothing
+        (and_heard other_pair nothing) }
     ensures unfitting { Answers held_book nothing (Comes.Peer details_of_other (Peers.Served of_no_manager)) planned }
     ensures unfitting_never_opened { Answers new_book nothing (Comes.Peer details_of_other (Peers.Served of_no_manager)) Nothing }
 {}
