@@ -97,6 +97,10 @@ seen_outside moment = record { flight = 1; sighting = record { moment = moment; 
 abbrev pub seen_inside : ℤ → Counted
 seen_inside moment = record { flight = 1; sighting = record { moment = moment; inside = true } }
 
+-- and so was flight 2
+abbrev pub other_seen : Counted → Counted
+other_seen c = record c { flight = 2 }
+
 abbrev pub seen : List Counted → Values
 seen positions = record no_values { positions = positions }
 

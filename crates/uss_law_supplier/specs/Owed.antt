@@ -1,6 +1,7 @@
 -- Worked steps of what closed jobs have still to do: two notifications that job 1 owes, one of job 2, which changed the same flight, and
 -- the tickets of job 1, which isn't needed any more, and of job 3, which was cancelled.
-use Rattle.std.specs.Prelude.{ℕ, List, [], ◌∷◌, ◌++◌, codes, Some, None}
+use Rattle.std.specs.Prelude.{ℕ, List, [], ◌∷◌, ◌++◌, map, codes, Some, None}
+use Rattle.std.specs.List.{range_with_len}
 use Rattle.uss_intent.specs.Identifiers.{ticket_number}
 use Rattle.uss_intent.specs.declared.records.Subscriber.{Subscriber}
 use Rattle.uss_intent.specs.declared.calls.DssAsk.{DssAsk}
@@ -13,7 +14,7 @@ use Rattle.uss_event.specs.declared.calls.PeerCall.TheVariants as Calls
 use Rattle.uss_event.specs.declared.calls.Outgoing.{Outgoing}
 use Rattle.uss_event.specs.declared.calls.Outgoing.TheVariants as Goes
 use Rattle.uss_law_duty.specs.Worked.{now, flight, ovn, tried_book, subscriber}
-use Rattle.uss_law_supplier.specs.Cases.{upper_ask}
+use Rattle.uss_law_supplier.specs.Cases.{upper_ask, opens}
 use Rattle.uss_law_duty.specs.Flown.{flown_opened, flown_pending, flown_ovn, flown_pair}
 
 abbrev pub third_subscriber : Subscriber
@@ -31,6 +32,10 @@ chores_book =
     ∷ Enters.TicketOpen 3
     ∷ Enters.Done 3 Ends.Cancelled
     ∷ []
+
+-- beside these, so many jobs are open, of flights 104 and on
+abbrev pub busy_chores_book : ℕ → List Entry
+busy_chores_book jobs = chores_book ++ map opens (range_with_len 4 jobs)
 
 -- a job tells a subscriber, at a place, of what is held of the flight then
 abbrev pub tells_flown : ℕ → ℕ → Subscriber → Outgoing

@@ -28,6 +28,15 @@ ghost use Rattle.uss_law_duty.specs.Flown.{flown_ask, flown_opened, flown_ticket
 ghost use Rattle.uss_law_duty.specs.Flown.{flown_reference, flown_held, changed, strayed_book, strayed_query, strayed_pending};
 ghost use Rattle.uss_law_duty.specs.Flown.{strayed_put, strayed_tried_book};
 ghost use Rattle.uss_law_supplier.specs.Flown.{flown_ticket_put};
+ghost use Rattle.uss_law_duty.specs.Worked.{now};
+ghost use Rattle.uss_law_supplier.specs.Cases.{upper_ask, third_reference, third_in_the_way, asks, either, opens_first, either_book};
+ghost use Rattle.uss_law_supplier.specs.Cases.{round_both, second_chosen, second_chosen_put, either_tried_book};
+ghost use Rattle.uss_law_supplier.specs.Flown.{ticket_round};
+ghost use Rattle.uss_law_supplier.specs.Twice.{twice_book, second_put, alike_book, alike_put, second_reference, second_recorded};
+ghost use Rattle.uss_law_supplier.specs.Twice.{planned_at_last, twice_held_book, at, in_progress, both_book, upper_query, first_waits};
+ghost use Rattle.uss_law_supplier.specs.Twice.{second_waits, both_wait, upper_first, upper_first_put, newer_pair, newer_keyed};
+ghost use Rattle.uss_law_supplier.specs.Twice.{newer_keyed_put, taken, taken_pair, details_of_taken, taken_asked, taken_keyed, taken_keyed_put, claimed};
+ghost use Rattle.uss_law_supplier.specs.Twice.{details_elsewhere, details_for_second, second_asks, not_its_own, missing_two};
 ghost use Rattle.uss_law_supplier.specs.Values.{no_round, round_with, leaving_out};
 ghost use Rattle.uss_law_supplier.specs.Worked.{Does, Answers, nothing, waiting, waits, and_heard, found_other, asked_round, asked_other};
 ghost use Rattle.uss_law_supplier.specs.Turns.{dss_call};
@@ -125,6 +134,8 @@ pub fn a_job_goes_on()
     ensures lacked { Does tried_book (waits 1 put) (replies_to 1 put missing) None (calls 1 query) Nothing (waits 1 query) }
     ensures last_round { Does last_try_book (waits 1 put) (replies_to 1 put missing) (Some (Enters.Deciding 1 stale))
         (calls 1 ticket_remove) Nothing (waits 1 ticket_remove) }
+    ensures last_round_lacking_two { Does last_try_book (waits 1 put) (replies_to 1 put missing_two)
+        (Some (Enters.Deciding 1 (Ends.Stale (2 ∷ 3 ∷ [])))) (calls 1 ticket_remove) Nothing (waits 1 ticket_remove) }
     ensures there { Does tried_book (waits 1 put) (replies_to 1 put exists) None (calls 1 get) Nothing (waits 1 get) }
     ensures stale_ovn { Does tried_book (waits 1 put) (replies_to 1 put (refused Refusals.StaleOvn)) None (calls 1 get) Nothing
         (waits 1 get) }
@@ -181,6 +192,8 @@ pub fn a_job_gives_up()
 /// no further attempt, are resumed; a closed job gives its answer.
 pub fn a_request_is_cancelled()
     ensures untried { Does asked_book (waits 1 ticket_put) (Comes.Cancel 1 1) (Some done) [] (Answer Says.Cancelled) nothing }
+    ensures untried_with_ticket { Does ticket_book (waits 1 query) (Comes.Cancel 1 1) (Some done) [] (Answer Says.Cancelled) nothing }
+    ensures untried_in_a_round { Does ticket_book asked_other (Comes.Cancel 1 1) (Some done) [] (Answer Says.Cancelled) nothing }
     ensures tried { Does tried_book (waits 1 put) (Comes.Cancel 1 1) (Some cancelling) (calls 1 ticket_remove) Nothing
         (waits 1 ticket_remove) }
     ensures end { Does ending_book nothing (Comes.Cancel 1 2) None (calls 2 remove) Nothing (waits 2 remove) }
@@ -211,4 +224,104 @@ pub fn a_closed_job_answers_again()
     ensures left { Does tried_book (waits 1 put) (Comes.Failed 1) None [] (Left (1 ∷ []))
         (record nothing { jobs = record { job = 1; awaited = None; round = no_round } ∷ [] }) }
     ensures left_with_none { Answers tried_book nothing (Comes.Failed 9) (Left []) }
+{}
+
+/// A job acts on a reply to the very call that it waits for: while it waits for the Put of its second attempt, a late reply to that of its
+/// first makes the second go out again, even where the two differ in their tags alone. Either attempt is held where it turns out to have
+/// been recorded.
+pub fn a_job_waits_for_its_last_attempt()
+    ensures landed_late { Does twice_book (waits 1 second_put) (replies_to 1 put (Replies.Landed the_reference [])) None
+        (calls 1 second_put) Nothing (waits 1 second_put) }
+    ensures lacked_late { Does twice_book (waits 1 second_put) (replies_to 1 put missing) None (calls 1 second_put) Nothing
+        (waits 1 second_put) }
+    ensures landed_late_alike { Does alike_book (waits 1 alike_put) (replies_to 1 put (Replies.Landed the_reference [])) None
+        (calls 1 alike_put) Nothing (waits 1 alike_put) }
+    ensures lacked_late_alike { Does alike_book (waits 1 alike_put) (replies_to 1 put missing) None (calls 1 alike_put) Nothing
+        (waits 1 alike_put) }
+    ensures landed { Does twice_book (waits 1 second_put) (replies_to 1 second_put (Replies.Landed second_reference []))
+        (Some second_recorded) [] planned_at_last nothing }
+    ensures lacked { Does twice_book (waits 1 second_put) (replies_to 1 second_put missing) None (calls 1 query) Nothing (waits 1 query) }
+    ensures got_the_first { Does twice_book (waits 1 get) (replies_to 1 get (Replies.Got the_reference)) (Some recorded) [] planned
+        nothing }
+    ensures got_the_second { Does twice_book (waits 1 get) (replies_to 1 get (Replies.Got second_reference)) (Some second_recorded) []
+        planned_at_last nothing }
+    ensures resumed { Does twice_book nothing (Comes.Ask ask) None (calls 1 second_put) Nothing (waits 1 second_put) }
+{}
+
+/// Where a call fails, the tags of all attempts are said, in their order; the job's round is kept. A closed job's tags are said too, and
+/// nothing changes.
+pub fn a_failed_call_leaves_tags()
+    ensures of_two_attempts { Does twice_book (in_progress (at 1 (Some (dss_call 1 second_put)) asked_round ∷ [])) (Comes.Failed 1) None []
+        (Left (1 ∷ 2 ∷ [])) (in_progress (at 1 None asked_round ∷ [])) }
+    ensures of_none { Does ticket_book asked_other (Comes.Failed 1) None [] (Left []) (in_progress (at 1 None asked_round ∷ [])) }
+    ensures closed { Answers twice_held_book (and_heard other_pair nothing) (Comes.Failed 1) (Left (1 ∷ 2 ∷ [])) }
+    ensures closed_beside_an_open_job { Answers upper_book (waits 2 upper_query) (Comes.Failed 1) (Left (1 ∷ [])) }
+{}
+
+/// Of two open jobs, each has what it waits for and its round: what comes to one leaves the other.
+pub fn jobs_go_on_apart()
+    ensures second_failed { Does both_book both_wait (Comes.Failed 2) None [] (Left [])
+        (in_progress (first_waits ∷ at 2 None found_other ∷ [])) }
+    ensures first_failed { Does both_book both_wait (Comes.Failed 1) None [] (Left (1 ∷ []))
+        (in_progress (at 1 None asked_round ∷ second_waits ∷ [])) }
+    ensures second_found { Does both_book both_wait (replies_to 2 upper_query (Replies.Found [])) (Some upper_first)
+        (calls 2 upper_first_put) Nothing (in_progress (at 2 (Some (dss_call 2 upper_first_put)) no_round ∷ first_waits ∷ [])) }
+    ensures first_landed { Does both_book both_wait (replies_to 1 put (Replies.Landed the_reference [])) (Some recorded) [] planned
+        (in_progress (second_waits ∷ [])) }
+    ensures second_gone { Does both_book (in_progress (first_waits ∷ second_asks ∷ [])) (Comes.Peer details_for_second Peers.Gone)
+        (Some upper_first) (calls 2 upper_first_put) Nothing
+        (in_progress (at 2 (Some (dss_call 2 upper_first_put)) (leaving_out other_reference.flight asked_round) ∷ first_waits ∷ [])) }
+    ensures repeated { Does both_book both_wait (Comes.Ask ask) None (calls 1 put) Nothing both_wait }
+    ensures repeated_after_a_failure { Does both_book (in_progress (first_waits ∷ at 2 None found_other ∷ [])) (Comes.Ask upper_ask) None
+        (calls 2 upper_query) Nothing (in_progress (at 2 (Some (dss_call 2 upper_query)) found_other ∷ first_waits ∷ [])) }
+    ensures call_of_the_other { Does both_book both_wait (replies_to 1 upper_query (Replies.Found [])) None (calls 1 put) Nothing
+        both_wait }
+    ensures second_cancelled { Does both_book both_wait (Comes.Cancel 2 1) (Some (Enters.Done 2 Ends.Cancelled)) [] (Answer Says.Cancelled)
+        (in_progress (first_waits ∷ [])) }
+{}
+
+/// A reference is asked for where no pair of exactly its version is kept, even where that is newer; what is served then doesn't take its
+/// place. Whose a flight is, its reference's manager says and not its identifier.
+pub fn references_are_asked_for()
+    ensures kept_newer { Does ticket_book (and_heard newer_pair (waits 1 query)) (replies_to 1 query (Replies.Found (other_reference ∷ [])))
+        None (Goes.Peer details_of_other ∷ []) Nothing (and_heard newer_pair asked_other) }
+    ensures served_older { Does ticket_book (and_heard newer_pair asked_other) (Comes.Peer details_of_other (Peers.Served other_pair))
+        (Some newer_keyed) (calls 1 newer_keyed_put) Nothing
+        (and_heard newer_pair (and_heard other_pair (waiting 1 (dss_call 1 newer_keyed_put) asked_round))) }
+    ensures taken { Does upper_book (waits 2 upper_query) (replies_to 2 upper_query (Replies.Found (taken ∷ []))) None
+        (Goes.Peer details_of_taken ∷ []) Nothing (waiting 2 (Goes.Peer details_of_taken) taken_asked) }
+    ensures taken_served { Does upper_book (waiting 2 (Goes.Peer details_of_taken) taken_asked)
+        (Comes.Peer details_of_taken (Peers.Served taken_pair)) (Some taken_keyed) (calls 2 taken_keyed_put) Nothing
+        (and_heard taken_pair (waiting 2 (dss_call 2 taken_keyed_put) taken_asked)) }
+    ensures claimed { Does ticket_book (and_heard other_pair (waits 1 query)) (replies_to 1 query (Replies.Found (claimed ∷ [])))
+        (Some pending) (calls 1 put) Nothing (and_heard other_pair (waiting 1 (dss_call 1 put) (round_with (claimed ∷ [])))) }
+{}
+
+/// A job with two alternatives looks round both, and tries the second where only the first is stood against; its Put has that one's
+/// volumes, also when it goes out again.
+pub fn a_job_chooses_its_alternative()
+    ensures asking { Does new_book nothing (asks 1 either) (Some (opens_first now either)) (calls 1 (ticket_round 1 round_both)) Nothing
+        (waits 1 (ticket_round 1 round_both)) }
+    ensures chosen { Does either_book asked_other (Comes.Peer details_of_other (Peers.Served in_the_way)) (Some second_chosen)
+        (calls 1 second_chosen_put) Nothing (and_heard in_the_way (waiting 1 (dss_call 1 second_chosen_put) asked_round)) }
+    ensures again { Does either_tried_book nothing (asks 1 either) None (calls 1 second_chosen_put) Nothing (waits 1 second_chosen_put) }
+    ensures landed { Does either_tried_book (waits 1 second_chosen_put) (replies_to 1 second_chosen_put (Replies.Landed the_reference []))
+        (Some recorded) [] (Answer (Says.Planned flight 1 1 ovn 1)) nothing }
+    ensures blocked_by_the_second_pair { Does ticket_book (and_heard other_pair (waiting 1 (Goes.Peer details_of_third) both_asked))
+        (Comes.Peer details_of_third (Peers.Served third_in_the_way))
+        (Some (Enters.Done 1 (Ends.Conflict third_reference.flight third_reference.manager EqualForbidden))) []
+        (Answer (Says.Conflict third_reference.flight third_reference.manager EqualForbidden))
+        (and_heard other_pair (and_heard third_in_the_way nothing)) }
+{}
+
+/// A reply to a call of the same kind that asks something else isn't acted on, though a pair that it serves is heard.
+pub fn a_job_waits_for_its_very_call()
+    ensures found_elsewhere { Does ticket_book (waits 1 query) (replies_to 1 upper_query (Replies.Found [])) None (calls 1 query) Nothing
+        (waits 1 query) }
+    ensures got_another { Does tried_book (waits 1 get) (replies_to 1 (Asks.Get not_its_own.flight) (Replies.Got not_its_own)) None
+        (calls 1 get) Nothing (waits 1 get) }
+    ensures gone_elsewhere { Does ticket_book asked_other (Comes.Peer details_elsewhere Peers.Gone) None (Goes.Peer details_of_other ∷ [])
+        Nothing asked_other }
+    ensures served_elsewhere { Does ticket_book asked_other (Comes.Peer details_elsewhere (Peers.Served other_pair)) None
+        (Goes.Peer details_of_other ∷ []) Nothing (and_heard other_pair asked_other) }
 {}

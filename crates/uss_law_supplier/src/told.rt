@@ -17,6 +17,8 @@ ghost use Rattle.uss_law_duty.specs.Worked.{other_pair, held_pair, note_of_other
 ghost use Rattle.uss_law_supplier.specs.Cases.{refused, of_no_manager, ended_book};
 ghost use Rattle.uss_law_supplier.specs.Owed.{third_subscriber, chores_book, fewer_chores_book, tells_flown, third_remove, ended_owing};
 ghost use Rattle.uss_law_supplier.specs.Owed.{told_of_end};
+ghost use Rattle.uss_law_duty.specs.Flown.{flown_book, flown_pair};
+ghost use Rattle.uss_law_supplier.specs.Twice.{third_ticket};
 ghost use Rattle.uss_law_supplier.specs.Worked.{Does, Answers, nothing, waits, and_heard};
 
 /// A sweep makes the calls of chores: what is to be told, by job and place, and then the tickets to be taken out, by job; from so many on.
@@ -34,15 +36,19 @@ pub fn a_sweep_makes_the_calls_of_chores()
     ensures beside_an_open_job { Does tried_book (waits 1 put) (Comes.Sweep 0) None [] Nothing (waits 1 put) }
 {}
 
-/// A reply to a chore that stands enters that it is done, and nobody is told. Any other is one to a closed job.
+/// A reply to a chore that stands enters that it is done, and nobody is told: a notification's by its place, even where another pair is
+/// held now than its note has. Any other is one to a closed job.
 pub fn chores_are_done_once()
     ensures told { Does owing_book nothing (Comes.Peer notify Peers.Noted) (Some notified) [] Nothing nothing }
+    ensures told_what_was_held { Does chores_book nothing (Comes.Peer notify Peers.Noted) (Some notified) [] Nothing nothing }
     ensures told_before { Answers (owing_book ++ notified ∷ []) nothing (Comes.Peer notify Peers.Noted) planned }
     ensures not_told { Answers owing_book nothing (Comes.Peer notify (Peers.Status 500)) planned }
     ensures taken_out { Does chores_book nothing (replies_to 1 ticket_remove (Replies.TicketRemoved the_ticket))
         (Some (Enters.TicketGone 1)) [] Nothing nothing }
     ensures taken_out_before { Does chores_book nothing (replies_to 1 ticket_remove (refused Refusals.Retired))
         (Some (Enters.TicketGone 1)) [] Nothing nothing }
+    ensures of_another_ticket { Answers chores_book nothing (replies_to 1 ticket_remove (Replies.TicketRemoved third_ticket)) planned }
+    ensures of_another_job { Answers chores_book nothing (replies_to 1 third_remove (Replies.TicketRemoved third_ticket)) planned }
     ensures heard_before { Answers fewer_chores_book nothing (replies_to 1 ticket_remove (Replies.TicketRemoved the_ticket)) planned }
     ensures still_needed { Answers held_book nothing (replies_to 1 ticket_remove (Replies.TicketRemoved the_ticket)) planned }
     ensures still_cited { Answers chores_book nothing (replies_to 1 ticket_remove (refused Refusals.TicketInUse)) planned }
@@ -51,6 +57,7 @@ pub fn chores_are_done_once()
 /// Another supplier is given what is held of a flight; what it tells of a flight that it manages is heard.
 pub fn others_are_served_and_heard()
     ensures served { Answers held_book nothing (Comes.Details (codes "uss2") flight) (Pair (Some held_pair)) }
+    ensures served_as_changed { Answers flown_book nothing (Comes.Details (codes "uss3") flight) (Pair (Some flown_pair)) }
     ensures none { Answers new_book nothing (Comes.Details (codes "uss2") flight) (Pair None) }
     ensures ended { Answers ended_book nothing (Comes.Details (codes "uss2") flight) (Pair None) }
     ensures of_another { Answers held_book nothing (Comes.Details (codes "uss2") other_reference.flight) (Pair None) }

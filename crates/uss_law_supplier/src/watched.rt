@@ -15,6 +15,7 @@ ghost use Rattle.uss_law_duty.specs.Flown.{with_around, straying, returning};
 ghost use Rattle.uss_law_supplier.specs.Flown.{nonconforming_book, contingent_book, at_five, prior_book, prior_strayed_book};
 ghost use Rattle.uss_law_supplier.specs.Flown.{a_minute_later, two_minutes_later, just_before, within, strays, losing, losing_inside};
 ghost use Rattle.uss_law_supplier.specs.Flown.{ticket_round, seen_outside, seen_inside, seen, and_seen};
+ghost use Rattle.uss_law_supplier.specs.Flown.{other_seen};
 ghost use Rattle.uss_law_supplier.specs.Worked.{DoesAt, RefusesAt, nothing, waits};
 
 /// A flight that is flown is inside its volume; it strays, and goes into Nonconforming; a minute later it is still outside, and goes into
@@ -88,4 +89,22 @@ pub fn positions_may_not_count()
         Nothing (waits 3 strayed_put) }
     ensures resumed_before_late { DoesAt first_seen strayed_book (seen (seen_inside a_minute_later ∷ [])) (Comes.Position (within 3))
         (Some strayed_pending) (calls 3 strayed_put) Nothing (and_seen (seen_inside a_minute_later ∷ []) (waits 3 strayed_put)) }
+{}
+
+/// In any other case a position only says what is found: of a flight that isn't flown yet, and of one that was lost, whatever is found.
+pub fn other_positions_say_what_is_found()
+    ensures lost_before_it_was_flown { DoesAt a_minute_later held_book (seen (seen_outside first_seen ∷ [])) (Comes.Position (strays 2))
+        None [] (Answer (Says.Steady Finds.Contingent)) (seen (seen_outside first_seen ∷ seen_outside a_minute_later ∷ [])) }
+    ensures lost_and_inside { DoesAt two_minutes_later contingent_book nothing (Comes.Position (within 5)) None []
+        (Answer (Says.Steady Finds.Conforming)) (seen (seen_inside two_minutes_later ∷ [])) }
+    ensures lost_and_outside { DoesAt two_minutes_later contingent_book nothing (Comes.Position (strays 5)) None []
+        (Answer (Says.Steady Finds.Nonconforming)) (seen (seen_outside two_minutes_later ∷ [])) }
+{}
+
+/// Each flight is judged by its own positions.
+pub fn positions_of_other_flights_do_not_count()
+    ensures not_lost { DoesAt a_minute_later held_book (seen (other_seen (seen_outside first_seen) ∷ [])) (Comes.Position (strays 2)) None
+        [] (Answer (Says.Steady Finds.Nonconforming)) (seen (other_seen (seen_outside first_seen) ∷ seen_outside a_minute_later ∷ [])) }
+    ensures not_late { DoesAt first_seen held_book (seen (other_seen (seen_inside a_minute_later) ∷ [])) (Comes.Position (within 2)) None []
+        (Answer (Says.Steady Finds.Conforming)) (seen (other_seen (seen_inside a_minute_later) ∷ seen_inside first_seen ∷ [])) }
 {}
