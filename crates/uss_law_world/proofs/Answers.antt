@@ -112,7 +112,7 @@ module _ (table : List ℕ) (owners : List Owner) (w : World) (names : AreSuppli
         version_is = m.rank;
       }
 
-  by_holding : (s : ℕ) (o : Opening) (answer : Answer) → IsOrderly (book_of s w) → Has (openings (book_of s w)) o → IsByHolding (book_of s w) s o answer → IsTrueAnswer w s o.job answer
+  by_holding : (s : ℕ) (o : Opening) (answer : Answer) → IsOrderly (book_of s w) → Has (openings (book_of s w)) o → IsByHolding (book_of s w) s o answer → IsTrueAnswer w s o answer
   by_holding s o answer r i b = go (is_none b.trial.previous) b.is
     where
       so : IsRecordedSo w s o.job (flight_number s o.ask.flight) b.holding.tag b.trial.alternative b.holding.ovn b.holding.version
@@ -120,12 +120,12 @@ module _ (table : List ℕ) (owners : List Owner) (w : World) (names : AreSuppli
 
       go : (x : Bool)
           → cond x (Some (Answers.Planned (flight_number s o.ask.flight) b.holding.tag b.trial.alternative b.holding.ovn b.holding.version)) (Some (Answers.Changed (flight_number s o.ask.flight) b.holding.tag b.trial.alternative b.holding.ovn b.holding.version)) ≡ Some answer
-          → IsTrueAnswer w s o.job answer
-      go true e = subst (IsTrueAnswer w s o.job) (some_same _ answer e) so
-      go false e = subst (IsTrueAnswer w s o.job) (some_same _ answer e) so
+          → IsTrueAnswer w s o answer
+      go true e = subst (IsTrueAnswer w s o) (some_same _ answer e) (refl, so)
+      go false e = subst (IsTrueAnswer w s o) (some_same _ answer e) (refl, so)
 
-  by_closing : (s : ℕ) (o : Opening) (answer : Answer) → IsOrderly (book_of s w) → Has (openings (book_of s w)) o → IsByClosing (book_of s w) s o answer → IsTrueAnswer w s o.job answer
-  by_closing s o answer r i b = subst (IsTrueAnswer w s o.job) b.is (go b.closing.end refl)
+  by_closing : (s : ℕ) (o : Opening) (answer : Answer) → IsOrderly (book_of s w) → Has (openings (book_of s w)) o → IsByClosing (book_of s w) s o answer → IsTrueAnswer w s o answer
+  by_closing s o answer r i b = subst (IsTrueAnswer w s o) b.is (go b.closing.end refl)
     where
       nothing : is_ended b.closing.end ≡ false → (l : Landing) → IsLandingOf w s o.job l → ⊥
       nothing e l h = nothing_lands table owners w names j s b.closing b.entered e l (subst (λ n. IsLandingOf w s n l) (sym b.job) h)
@@ -136,11 +136,11 @@ module _ (table : List ℕ) (owners : List Owner) (w : World) (names : AreSuppli
           let same : f.opening ≡ o = r.jobs f.opening o f.opened i (f.job_is ∙ b.job) in
           subst (λ (z : Opening). is_one_of (flight_number s z.ask.flight) w.service.retired_flights ≡ true) same f.retired
 
-      go : (end : Ending) → b.closing.end ≡ end → IsTrueAnswer w s o.job (by_end (flight_number s o.ask.flight) end)
+      go : (end : Ending) → b.closing.end ≡ end → IsTrueAnswer w s o (by_end (flight_number s o.ask.flight) end)
       go (Ends.Conflict flight manager rule) e = nothing (ap is_ended e)
       go (Ends.Stale missing) e = nothing (ap is_ended e)
       go Ends.Cancelled e = nothing (ap is_ended e)
-      go (Ends.Ended owed) e = ended (ap is_ended e)
+      go (Ends.Ended owed) e = (refl, ended (ap is_ended e))
 
   request_found : (s : ℕ) (o : Opening) (flight number : ℕ) → IsOrderly (book_of s w) → Has (openings (book_of s w)) o → o.ask.flight ≡ flight → o.ask.number ≡ number → job_of_request flight number (book_of s w) ≡ Some o
   unfolding job_of_request

@@ -195,25 +195,29 @@ pub record IsRecordedSo (w : World) (s job flight tag alternative : ℕ) (ovn : 
 abbrev pub NothingLanded : World → ℕ → ℕ → Type 0
 NothingLanded w s job = (l : Landing) → IsLandingOf w s job l → ⊥
 
+-- the answer speaks of the flight of a job's request
+abbrev pub IsOfItsFlight : ℕ → Opening → ℕ → Type 0
+IsOfItsFlight s o flight = flight ≡ flight_number s o.ask.flight
+
 -- the final answer is true now, of a job of a supplier
-abbrev pub IsTrueAnswer : World → ℕ → ℕ → Answer → Type 0
-IsTrueAnswer w s job (Answers.Planned flight tag alternative ovn version) = IsRecordedSo w s job flight tag alternative ovn version
-IsTrueAnswer w s job (Answers.Changed flight tag alternative ovn version) = IsRecordedSo w s job flight tag alternative ovn version
-IsTrueAnswer w s job (Answers.Ended flight) = is_one_of flight w.service.retired_flights ≡ true
-IsTrueAnswer w s job (Answers.Conflict flight manager rule) = NothingLanded w s job
-IsTrueAnswer w s job (Answers.Stale missing) = NothingLanded w s job
-IsTrueAnswer w s job Answers.Cancelled = NothingLanded w s job
-IsTrueAnswer w s job (Answers.Steady verdict) = Unit {0}
-IsTrueAnswer w s job (Answers.Crowded count) = Unit {0}
-IsTrueAnswer w s job (Answers.DssRefused number) = Unit {0}
-IsTrueAnswer w s job (Answers.PeerRefused peer status) = Unit {0}
-IsTrueAnswer w s job (Answers.Unsettled tag) = Unit {0}
+abbrev pub IsTrueAnswer : World → ℕ → Opening → Answer → Type 0
+IsTrueAnswer w s o (Answers.Planned flight tag alternative ovn version) = IsOfItsFlight s o flight × IsRecordedSo w s o.job flight tag alternative ovn version
+IsTrueAnswer w s o (Answers.Changed flight tag alternative ovn version) = IsOfItsFlight s o flight × IsRecordedSo w s o.job flight tag alternative ovn version
+IsTrueAnswer w s o (Answers.Ended flight) = IsOfItsFlight s o flight × (is_one_of flight w.service.retired_flights ≡ true)
+IsTrueAnswer w s o (Answers.Conflict flight manager rule) = NothingLanded w s o.job
+IsTrueAnswer w s o (Answers.Stale missing) = NothingLanded w s o.job
+IsTrueAnswer w s o Answers.Cancelled = NothingLanded w s o.job
+IsTrueAnswer w s o (Answers.Steady verdict) = Unit {0}
+IsTrueAnswer w s o (Answers.Crowded count) = Unit {0}
+IsTrueAnswer w s o (Answers.DssRefused number) = Unit {0}
+IsTrueAnswer w s o (Answers.PeerRefused peer status) = Unit {0}
+IsTrueAnswer w s o (Answers.Unsettled tag) = Unit {0}
 
 -- it is true of the job of the request
 pub record IsTrueOfRequest (w : World) (s flight number : ℕ) (answer : Answer) : Type 0 where
   pub opening : Opening
   pub job : job_of_request flight number (book_of s w) ≡ Some opening
-  pub is_true : IsTrueAnswer w s opening.job answer
+  pub is_true : IsTrueAnswer w s opening answer
 
 abbrev pub SaysTrue : World → Saying → Said → Type 0
 SaysTrue w x (Says.Answer answer) = is_final answer ≡ true → IsTrueOfRequest w x.supplier x.flight x.number answer
