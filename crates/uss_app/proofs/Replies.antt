@@ -8,7 +8,7 @@ use Rattle.uss_law_dss.specs.Service.{Service}
 use Rattle.uss_law_dss.specs.Step.{service_step}
 use Rattle.uss_app.specs.Discover.{replies_from}
 
--- this much of the whole text is made, and the lines behind make the rest
+-- this much of the whole text is made, and the lines after it make the rest
 pub record SoFar (whole : List ℕ) (s : Service) (lines : List DiscoverLine) (i : ℕ) (text : List ℕ) : Type 0 where
   pub is : whole ≡ text ++ replies_from s (drop i lines)
 

@@ -4,7 +4,7 @@ use Rattle.std.specs.Fmt.{decimal}
 use Rattle.uss_vol4.specs.Volume.{IsLeastShared, NoneShared}
 use Rattle.uss_text.specs.Conflict.{Lists}
 
--- i and j are the least pair of places, from 0, that shares a point of airspace and time
+-- i and j are the least pair of indices, from 0, whose volumes share a point of airspace and time
 pub record LeastPair (ls : Lists) (text : List ℕ) : Type 0 where
   pub i : ℕ
   pub j : ℕ

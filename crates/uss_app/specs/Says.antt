@@ -27,13 +27,13 @@ pub record Wrote (command : Command) (input taken : List ℕ) (after : Option (L
   pub says : Says command input status text
   pub is_taken : after ≡ Some (taken ++ text)
 
--- the sink took a front of a text that the input gives
+-- the sink took a prefix of a text that the input gives
 pub record WroteFront (command : Command) (input taken : List ℕ) (after : Option (List ℕ)) : Type 0 where
   pub status : ℕ
   pub text : List ℕ
   pub says : Says command input status text
   pub front : TookFront taken after text
 
--- nothing was written, or a front of what the input gives
+-- nothing was written, or a prefix of what the input gives
 abbrev pub Began : Command → (input taken : List ℕ) (after : Option (List ℕ)) → Type 0
 Began command input taken after = (after ≡ Some taken) ⊎ WroteFront command input taken after

@@ -7,7 +7,7 @@ use crate::commands::Command;
 use crate::{conflict, discover};
 use std::alloc::{AllocError, Global};
 use uss_link::{ReadWholeRefusal, Source, read_whole};
-use uss_text::ScriptRefusal;
+use uss_text::{MOST_BYTES, ScriptRefusal};
 
 /// What is to be written, and the status of the program once it was.
 #[derive(Drop)]
@@ -17,11 +17,11 @@ pub struct Answer {
 }
 
 /// Why there is no answer.
-#[derive(Clone, Copy, Debug, PartialEq, Eq)]
+#[derive(Clone, Copy)]
 pub enum Stop {
     /// A read answered a fault.
     Fault,
-    /// Memory is wanting.
+    /// The program was out of memory.
     Memory,
 }
 
@@ -36,9 +36,6 @@ impl From<AllocError> for Stop {
     }
 }
 
-/// The most bytes of a script: 64 MiB.
-const MOST: usize = 67_108_864;
-
 /// Reads the input to its end and says what is to be written of it.
 pub fn answer_to<S: Source>(alloc: Global, command: Command, input: &mut S) -> Result<Answer, Stop>
     ensures kept { S.faults input.old ≤ S.faults input.new }
@@ -48,7 +45,7 @@ pub fn answer_to<S: Source>(alloc: Global, command: Command, input: &mut S) -> R
     ensures ended { (left : List ℕ) → S.left input.old ≡ Some left → IfOk result (λ a. a.status ≡ 0 → S.left input.new ≡ Some []) }
     ensures says { (left : List ℕ) → S.left input.old ≡ Some left → IfOk result (λ a. Says command left a.status (string_bytes a.text)) }
 {
-    match read_whole(alloc, input, MOST) {
+    match read_whole(alloc, input, MOST_BYTES) {
         Ok(text) => judged(alloc, command, text.as_slice()),
         Err(ReadWholeRefusal::TooLarge) => refused(alloc, ScriptRefusal::TextTooLarge),
         Err(ReadWholeRefusal::Fault) => Err(Stop::Fault),

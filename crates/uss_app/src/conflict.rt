@@ -26,7 +26,7 @@ pub fn judged(alloc: Global, input: &[u8]) -> Result<Answer, Stop>
     }
 }
 
-/// The least pair of places that shares, or that there is none.
+/// The least pair of indices whose volumes share, or that there is none.
 fn compared(alloc: Global, script: &ConflictScript) -> Result<String, AllocError>
     ensures { IfOk result (λ text. Compared (lists script.now.a script.now.b) (string_bytes text)) }
 {
@@ -36,7 +36,7 @@ fn compared(alloc: Global, script: &ConflictScript) -> Result<String, AllocError
     }
 }
 
-/// The line of a pair of places.
+/// The line of a pair of indices.
 fn shares(alloc: Global, i: usize, j: usize) -> Result<String, AllocError>
     ensures { IfOk result (λ text. string_bytes text ≡ codes "shares " ++ (decimal i ++ (codes " " ++ (decimal j ++ codes "\n")))) }
 {

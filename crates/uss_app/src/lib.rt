@@ -1,4 +1,12 @@
 //! The top call: what the program does with its words, its input and its output, over any source and sink.
+//!
+//! ```
+//! let words = vec![in alloc; String::from_str(alloc, "conflict")?]?;
+//! let mut input = MemorySource::new(alloc, Vec::new(alloc));
+//! let mut output = MemorySink::new(alloc);
+//! assert_eq!(rt; command(alloc, words.as_slice(), &mut input, &mut output), 0);
+//! assert!(rt; output.taken() == b"clear\n".as_slice()); // two empty lists share nothing
+//! ```
 #![tactic(auto)]
 
 ghost use Rattle.std.specs.Prelude.{◌≡◌, ◌≢◌, ℕ, ◌≤◌, ◌⊎◌, ◌↔◌, ◌++◌, List, [], map, Option, Some, None, string_bytes};
@@ -12,8 +20,6 @@ mod answer;
 mod commands;
 mod conflict;
 mod discover;
-#[cfg(test)]
-mod tests;
 
 use answer::{Answer, Stop, answer_to};
 pub use commands::Command;
@@ -27,7 +33,7 @@ const USAGE: u8 = 2;
 /// An outside object answered a fault.
 const FAULT: u8 = 3;
 
-/// Memory is wanting.
+/// The program was out of memory.
 const MEMORY: u8 = 4;
 
 /// Carries out the command that the words after the program's name give, over this input and output, and
@@ -36,8 +42,8 @@ const MEMORY: u8 = 4;
 /// - 0: the input was read to its end, and the answer written whole;
 /// - 1: the input was refused, and the line `refused N line L` written;
 /// - 2: the words are no command; nothing is then read or written;
-/// - 3: the count of faults of the input or of the output rose; what was written is a front of the answer;
-/// - 4: memory was wanting; nothing was written.
+/// - 3: the count of faults of the input or of the output rose; what was written is a prefix of the answer;
+/// - 4: the program was out of memory; nothing was written.
 ///
 /// The words are one of these:
 ///

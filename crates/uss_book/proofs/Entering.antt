@@ -12,7 +12,7 @@ use Rattle.uss_journal.specs.declared.refusal.JournalRefusal.{JournalRefusal}
 use Rattle.uss_journal.specs.declared.refusal.JournalRefusal.TheVariants.{DiskFault, JournalFull, NotAJournal, Spent, Memory}
 use Rattle.uss_law_book.specs.Legal.{MayFollow, IsLegal}
 use Rattle.uss_law_book.proofs.EachOrderly.{legal_longer}
-use Rattle.uss_coding.specs.Coding.{coding_of}
+use Rattle.uss_book_codec.specs.Coding.{coding_of}
 use Rattle.uss_book.specs.Append.{Came, IsRefusalThatFits, outcome_of}
 use Rattle.uss_book.specs.Book.{BookWithOrWithout, records_of}
 use Rattle.uss_book.specs.Whole.{IsWhole}

@@ -13,7 +13,7 @@ use Rattle.uss_journal.specs.declared.refusal.JournalRefusal.TheVariants.{DiskFa
 use Rattle.uss_law_book.specs.Coding.{HasCoding}
 use Rattle.uss_law_book.specs.Legal.{MayFollow, IsLegal}
 use Rattle.uss_law_book.proofs.Room.{next_follows}
-use Rattle.uss_coding.specs.Coding.{coding_of}
+use Rattle.uss_book_codec.specs.Coding.{coding_of}
 use Rattle.uss_book.specs.Book.{StandsForBook, new_book}
 use Rattle.uss_book.specs.Refusal.{IsPassedOn, UnlessFault, passed_on}
 use Rattle.uss_book.proofs.Lengths.{fits_after}

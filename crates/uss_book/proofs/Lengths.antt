@@ -8,8 +8,8 @@ use Rattle.uss_law_book.specs.Coding.{record_length, journal_length}
 use Rattle.uss_law_book.specs.Legal.{MayFollow, IsLegal}
 use Rattle.uss_law_book.proofs.EachOrderly.{legal_longer}
 use Rattle.uss_law_book.proofs.Fits.{legal_fits}
-use Rattle.uss_coding.specs.Coding.{coding_of}
-use Rattle.uss_coding.proofs.Bytes.{length-coding_of}
+use Rattle.uss_book_codec.specs.Coding.{coding_of}
+use Rattle.uss_book_codec.proofs.Bytes.{length-coding_of}
 use Rattle.uss_book.specs.Book.{records_of}
 
 sum_codings : (es : List Entry) → sum_by (λ (r : List ℕ). 5 + length r) (map coding_of es) ≡ sum_by record_length es

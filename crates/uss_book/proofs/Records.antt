@@ -8,7 +8,7 @@ use Rattle.uss_event.specs.declared.entries.Entry.{Entry}
 use Rattle.uss_law_book.specs.Coding.{HasCoding}
 use Rattle.uss_law_book.specs.Legal.{MayFollow, MayAllFollow, IsLegal}
 use Rattle.uss_law_book.proofs.EachOrderly.{legal_longer}
-use Rattle.uss_coding.specs.Coding.{coding_of}
+use Rattle.uss_book_codec.specs.Coding.{coding_of}
 use Rattle.uss_book.specs.Book.{records_of}
 use Rattle.uss_book.specs.Judge.{IsFollowed}
 

@@ -13,8 +13,8 @@ use Rattle.uss_law_book.specs.Legal.{MayFollow, MayAllFollow, IsLegal}
 use Rattle.uss_law_book.specs.Lists.{owner_of}
 use Rattle.uss_law_book.proofs.Attempts.{owner_kept}
 use Rattle.uss_law_book.proofs.EachOrderly.{legal_rest, legal_beginning}
-use Rattle.uss_coding.specs.Coding.{coding_of}
-use Rattle.uss_coding.specs.Laws.{one_coding}
+use Rattle.uss_book_codec.specs.Coding.{coding_of}
+use Rattle.uss_book_codec.specs.Laws.{one_coding}
 use Rattle.uss_book.specs.Book.{records_of, IsBadEntry}
 use Rattle.uss_book.specs.Reread.{BeginsWith, IsOther, IsFirstChange, IsReadDifferently, AreAnothers, IsByRecords, IsOfReading}
 use Rattle.uss_book.specs.Refusal.{SaysNothing}

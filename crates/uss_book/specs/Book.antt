@@ -6,7 +6,7 @@ use Rattle.uss_event.specs.declared.entries.Entry.TheVariants as Enters
 use Rattle.uss_journal.specs.Format.{stands_for}
 use Rattle.uss_law_book.specs.Lists.{owner_of}
 use Rattle.uss_law_book.specs.Legal.{MayFollow, IsLegal}
-use Rattle.uss_coding.specs.Coding.{coding_of}
+use Rattle.uss_book_codec.specs.Coding.{coding_of}
 
 -- a book: its disk; its entries, the oldest first; where it is spent, its disk's count of faults when it last answered a fault; the
 -- entry that it had tried to enter when it answered a fault, if it had tried one; and the records that a remount found which was

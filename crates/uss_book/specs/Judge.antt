@@ -2,7 +2,7 @@
 use Rattle.std.specs.Prelude.{◌≡◌, ℕ, Bool, true, false, List, [], ◌∷◌, ◌++◌}
 use Rattle.uss_event.specs.declared.entries.Entry.{Entry}
 use Rattle.uss_law_book.specs.Legal.{MayFollow}
-use Rattle.uss_coding.specs.Coding.{coding_of}
+use Rattle.uss_book_codec.specs.Coding.{coding_of}
 
 -- the record is the coding of an entry that may follow, and that is the last now
 pub record IsFollowed (before : List Entry) (bytes : List ℕ) (after : List Entry) : Type 0 where

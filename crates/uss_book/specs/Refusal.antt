@@ -11,7 +11,7 @@ use Rattle.uss_journal.specs.declared.refusal.JournalRefusal.TheVariants as Jour
 use Rattle.uss_book.specs.declared.refusal.BookFault.{BookFault}
 use Rattle.uss_book.specs.declared.refusal.BookFault.TheVariants.{DiskFault, NotAJournal, Spent, BadEntry, OtherOwner, Changed, Memory}
 use Rattle.uss_book.specs.declared.refusal.BookRefusal.{BookRefusal}
-use Rattle.uss_entries.specs.Known.{Known}
+use Rattle.uss_book_index.specs.Known.{Known}
 use Rattle.uss_book.specs.Book.{BookView, IsBadEntry, IsOtherOwner}
 
 -- the number under which a refusal is printed; want of memory has none

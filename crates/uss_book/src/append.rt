@@ -4,14 +4,14 @@ ghost use Rattle.uss_disk.specs.Disk.{CrashLeaves};
 ghost use Rattle.uss_journal.specs.Format.{limit, used_of};
 ghost use Rattle.uss_journal.specs.Journal.{StandsFor, WithOrWithout};
 ghost use Rattle.uss_law_book.specs.Coding.{HasCoding};
-ghost use Rattle.uss_coding.specs.Coding.{coding_of};
-ghost use Rattle.uss_entries.specs.Known.{IsReadyFor};
+ghost use Rattle.uss_book_codec.specs.Coding.{coding_of};
+ghost use Rattle.uss_book_index.specs.Known.{IsReadyFor};
 ghost use Rattle.uss_book.specs.Append.{Came, OnDone, IsRefusalThatFits, outcome_of};
 
 use std::alloc::{AllocError, Global};
-use uss_coding::write;
+use uss_book_codec::write;
+use uss_book_index::Entries;
 use uss_disk::Disk;
-use uss_entries::Entries;
 use uss_event::Entry;
 use uss_journal::{Journal, JournalRefusal};
 

@@ -1,17 +1,15 @@
-ghost use Rattle.std.specs.Prelude.{◌≡◌, ◌↔◌, ◌≢◌, ◌≤◌, ◌⊎◌, ◌∷◌, ◌++◌, [], List, ℕ, length, nat_le, find, Some, None, IsTrue, IfOk, IfErr, OnOk, MatchResult, slice_get, is_some};
-ghost use Rattle.std.specs.List.{last_or};
-ghost use Rattle.std.specs.Option.{option_copied, option_and_then, option_map};
+ghost use Rattle.std.specs.Prelude.{◌≡◌, ◌↔◌, ◌≢◌, ◌≤◌, ◌⊎◌, ◌∷◌, ◌++◌, [], List, ℕ, length, Some, None, IsTrue, IfOk, IfErr, OnOk, MatchResult, slice_get};
+ghost use Rattle.std.specs.Option.{option_copied, option_map};
 ghost use Rattle.uss_event.specs.declared.entries.Entry.{Entry};
 ghost use Rattle.uss_disk.specs.Disk.{bytes_of, CrashLeaves};
 ghost use Rattle.uss_journal.specs.Format.{stands_for};
 ghost use Rattle.uss_journal.specs.Journal.{mounted};
 ghost use Rattle.uss_law_book.specs.Lists.{owner_of};
-ghost use Rattle.uss_law_book.specs.Readings.{open_job_of, last_of, trials_of, owns, owed_of, untold};
+ghost use Rattle.uss_law_book.specs.Readings.{open_job_of, last_of, trials_of, owns};
 ghost use Rattle.uss_law_book.specs.Attempts.{held};
 ghost use Rattle.uss_law_book.specs.Coding.{HasCoding, journal_length};
 ghost use Rattle.uss_law_book.specs.Legal.{MayFollow, IsLegal};
 ghost use Rattle.uss_law_book.specs.Reserve.{need};
-ghost use Rattle.uss_legal.specs.Speaks.{trial_in};
 ghost use Rattle.uss_book.specs.Book.{StandsForBook, BookWithOrWithout, IsFound, MountLeaves, new_book, records_of};
 ghost use Rattle.uss_book.specs.Refusal.{Entered, EnterRefused, MountRefused, ViewRefused, RefusedBy, SaysNothing, IsAnothers, IsLeft, UnlessFault, disk_after};
 ghost use Rattle.uss_book.specs.Reread.{Remounted, RemountRefused, IsByFound};
@@ -25,19 +23,18 @@ use crate::start::start;
 use crate::{BookFault, BookRefusal};
 use std::alloc::Global;
 use std::marker::Model;
+use uss_book_index::Entries;
+use uss_book_rules::Tells;
 use uss_disk::Disk;
-use uss_entries::Entries;
 use uss_event::{Entry, Owner, Pair};
-use uss_intent::Subscriber;
 use uss_journal::Journal;
-use uss_legal::Tells;
 
 /// A supplier's book on a disk: a list of entries, legal at every moment, each durable once it was entered. It owns its disk.
 #[derive(Drop)]
 pub struct Book<D: Disk> {
     alloc: Global,
     journal: Journal<D>,
-    pub(crate) kept: Entries,
+    kept: Entries,
     // The entry that was tried when the journal was spent, if one was.
     tried: Option<Entry>,
 }
@@ -250,6 +247,14 @@ impl<D: Disk> Book<D> {
         }
     }
 
+    /// The entries with their index, which tells all else of the book: `Tells`, a job's attempts by number, and whom it owes a
+    /// notification. Takes no memory.
+    pub fn entries(&self) -> &Entries
+        ensures { result.now.entries ≡ self.now.entries }
+    {
+        &self.kept
+    }
+
     /// The entry with this number, from 0, the oldest first. Takes no memory.
     pub fn entry(&self, n: u64) -> Option<&Entry>
         ensures entry { option_copied result ≡ slice_get self.now.entries n }
@@ -321,38 +326,6 @@ impl<D: Disk> Book<D> {
         ensures { result ≡ owns job tag self.now.entries }
     {
         self.kept.owns(job, tag)
-    }
-
-    /// The job's attempt with this number among the job's, from 0, the oldest first. Takes no memory.
-    pub fn attempt_at(&self, job: u64, number: usize) -> Option<&Entry>
-        ensures says { option_and_then trial_in (option_copied result) ≡ slice_get (trials_of job self.now.entries) number }
-        ensures found { is_some result ≡ is_some (slice_get (trials_of job self.now.entries) number) }
-    {
-        self.kept.attempt_at(job, number)
-    }
-
-    /// The job's last attempt. Takes no memory.
-    pub fn last_attempt(&self, job: u64) -> Option<&Entry>
-        ensures says { option_and_then trial_in (option_copied result) ≡ last_or None (trials_of job self.now.entries) }
-        ensures found { is_some result ≡ is_some (last_or None (trials_of job self.now.entries)) }
-    {
-        self.kept.last_attempt(job)
-    }
-
-    /// Whom the job owes a notification, answered or not: those that its record or its end names, and nobody while it is open. Takes no
-    /// memory.
-    pub fn owed(&self, job: u64) -> &[Subscriber]
-        ensures { result.now ≡ owed_of job self.now.entries }
-    {
-        self.kept.owed(job)
-    }
-
-    /// The least place, `from` or above, of the notifications that the job owes and that weren't answered. It looks up each place from
-    /// `from` to there. Takes no memory.
-    pub fn untold(&self, job: u64, from: u32) -> Option<u32>
-        ensures { result ≡ find (nat_le from) (untold job self.now.entries) }
-    {
-        self.kept.untold(job, from)
     }
 
     /// Gives the disk back.

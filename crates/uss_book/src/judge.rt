@@ -1,15 +1,15 @@
 // Records that were read are judged, one after another.
 ghost use Rattle.std.specs.Prelude.{◌≡◌, ◌∷◌, ◌++◌, [], Bool, true, false, IfOk, IfErr, MatchResult};
 ghost use Rattle.uss_law_book.specs.Legal.{MayFollow, IsLegal};
-ghost use Rattle.uss_coding.specs.Coding.{coding_of};
+ghost use Rattle.uss_book_codec.specs.Coding.{coding_of};
 ghost use Rattle.uss_book.specs.Book.{records_of};
 ghost use Rattle.uss_book.specs.Judge.{IsJudged};
 ghost use Rattle.uss_book.specs.Refusal.{Misread};
 
 use crate::BookFault;
 use std::alloc::{AllocError, Global};
-use uss_coding::read;
-use uss_entries::Entries;
+use uss_book_codec::read;
+use uss_book_index::Entries;
 use uss_journal::Records;
 
 /// Whether a record's bytes are the coding of an entry that may follow those that are kept: the entry is then kept too.

@@ -10,8 +10,8 @@ ghost use Rattle.uss_book.specs.Refusal.{IsPassedOn, passed_on, ViewRefused, Rea
 use crate::judge::entries_of;
 use crate::{BookFault, BookRefusal};
 use std::alloc::Global;
+use uss_book_index::Entries;
 use uss_disk::Disk;
-use uss_entries::Entries;
 use uss_journal::{Journal, JournalRefusal};
 
 /// What a book answers where its journal answers this.

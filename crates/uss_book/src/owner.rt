@@ -5,9 +5,9 @@ ghost use Rattle.uss_law_book.specs.Coding.{HasCoding};
 ghost use Rattle.uss_law_book.specs.Legal.{IsLegal};
 ghost use Rattle.uss_law_book.specs.Lists.{owner_of};
 
-use uss_entries::Entries;
+use uss_book_index::Entries;
+use uss_book_rules::Tells;
 use uss_event::{Entry, Owner};
-use uss_legal::Tells;
 
 /// Whether both are one owner: each of their parts is the same.
 pub(crate) fn is_same(a: &Owner, b: &Owner) -> bool

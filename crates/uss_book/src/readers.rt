@@ -1,7 +1,7 @@
 // What an opening says.
 ghost use Rattle.std.specs.Prelude.{◌≡◌};
 ghost use Rattle.std.specs.Option.{option_copied, option_and_then, option_map};
-ghost use Rattle.uss_legal.specs.Speaks.{opening_in};
+ghost use Rattle.uss_book_rules.specs.Speaks.{opening_in};
 
 use uss_event::Entry;
 

@@ -14,11 +14,11 @@ use crate::judge::entries_of;
 use crate::load::passed_on;
 use crate::owner::{into_owner, is_same};
 use std::alloc::Global;
+use uss_book_index::Entries;
+use uss_book_rules::Tells;
 use uss_disk::Disk;
-use uss_entries::Entries;
 use uss_event::Entry;
 use uss_journal::{Journal, Records};
-use uss_legal::Tells;
 
 /// The number of the first known record that isn't the one that was found with this number.
 fn first_change(found: &Records<'_>, known: &Records<'_>) -> Option<usize>

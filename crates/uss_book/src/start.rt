@@ -10,9 +10,9 @@ use crate::BookFault;
 use crate::load::passed_on;
 use crate::owner::first_entry;
 use std::alloc::Global;
-use uss_coding::write;
+use uss_book_codec::write;
+use uss_book_index::Entries;
 use uss_disk::Disk;
-use uss_entries::Entries;
 use uss_event::Owner;
 use uss_journal::Journal;
 

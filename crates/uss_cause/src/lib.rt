@@ -1,5 +1,10 @@
 //! The words of causes: an outside object (a source, a sink, a disk, a dial) counts its faults, and a
 //! call over it answers a fault only where that count rose in the call, or stands at its greatest value.
+//!
+//! ```
+//! assert_eq!(rt; raised(3), 4);
+//! assert_eq!(rt; raised(u64::MAX), u64::MAX);
+//! ```
 #![tactic(auto)]
 
 ghost use Rattle.std.specs.Prelude.{◌≡◌, ℕ, ◌+◌, ◌<◌, ◌≤◌};

@@ -1,3 +1,4 @@
 pub mod Places
 pub mod Orderly
 pub mod KeyLemmas
+pub mod Maps

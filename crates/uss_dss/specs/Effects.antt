@@ -1,20 +1,19 @@
 -- How the service writes the new indices of tickets.
-use Rattle.std.specs.Prelude.{ℕ, ◌+◌, ◌<◌, ◌^◌, List, [], ◌∷◌, if◌then◌else◌}
-use Rattle.uss_vol4.specs.Volume.{Volume4D}
+use Rattle.std.specs.Prelude.{ℕ, ◌+◌, ◌<◌, ◌^◌, ◌==◌, List, [], ◌∷◌, if◌then◌else◌}
+use Rattle.std.specs.List.{fold}
+use Rattle.uss_intent.specs.declared.records.Subscriber.{Subscriber}
 use Rattle.uss_intent.specs.declared.records.Ticket.{Ticket}
 use Rattle.uss_law_dss.specs.Lists.{Has}
-use Rattle.uss_law_dss.specs.Step.{is_told}
 
 -- each ticket's index can rise
 abbrev pub CanRise : List Ticket → Type 0
 CanRise ts = (t : Ticket) → Has ts t → t.index + 1 < 2 ^ 64
 
--- the index of a ticket after a change of these extents
-abbrev pub index_after : List ℕ → List Volume4D → Ticket → ℕ
-index_after client extents t = if is_told client extents t then t.index + 1 else t.index
+-- the tickets, the first one with this identifier with this index
+abbrev pub with_index : ℕ → ℕ → List Ticket → List Ticket
+with_index id n [] = []
+with_index id n (t ∷ ts) = if t.id == id then record t { index = n } ∷ ts else t ∷ with_index id n ts
 
--- the tickets with these indices, and those beyond them as they are
-abbrev pub with_indices : List ℕ → List Ticket → List Ticket
-with_indices [] ts = ts
-with_indices (n ∷ ns) [] = []
-with_indices (n ∷ ns) (t ∷ ts) = record t { index = n } ∷ with_indices ns ts
+-- the tickets with the indices that these subscribers have
+abbrev pub with_indices : List Subscriber → List Ticket → List Ticket
+with_indices told ts = fold (λ us s. with_index s.ticket s.index us) ts told

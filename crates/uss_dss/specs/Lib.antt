@@ -1,3 +1,4 @@
 pub mod Parts
 pub mod Effects
 pub mod Keys
+pub mod Maps

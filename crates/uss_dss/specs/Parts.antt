@@ -3,6 +3,7 @@
 use Rattle.std.specs.Prelude.{◌≡◌, ℕ, Bool, true, false, not, ◌&&◌, ◌==◌, nat_le, List, [], ◌∷◌, ◌++◌, length, filter, Option, Some, None, is_some, is_none, if◌then◌else◌}
 use Rattle.std.proofs.Common.{cond, suc, refl, sym, ap, ◌∙◌}
 use Rattle.uss_vol4.specs.Volume.{Volume4D}
+use Rattle.uss_intent.specs.Limits.{most_references, last_version, most_landings}
 use Rattle.uss_intent.specs.declared.records.Recorded.{Recorded}
 use Rattle.uss_intent.specs.declared.records.Reference.{Reference}
 use Rattle.uss_intent.specs.declared.records.State.{State}
@@ -39,9 +40,9 @@ key_tests s client flight extents key state =
 -- of the room that is left
 abbrev pub room_tests : Service → ℕ → Option (List ℕ) → List (Bool × DssRefusal)
 room_tests s flight ovn =
-    (is_none ovn && nat_le 4096 (length s.references), Full 4096)
-    ∷ (is_at_last_version (recorded_of flight s), Full 4294967295)
-    ∷ (nat_le 9999999999999999 (length s.landings), Full 9999999999999999)
+    (is_none ovn && nat_le most_references (length s.references), Full most_references)
+    ∷ (is_at_last_version (recorded_of flight s), Full last_version)
+    ∷ (nat_le most_landings (length s.landings), Full most_landings)
     ∷ []
 
 -- a recorded reference of another flight of which the key lacks the OVN, though some of its extents shares with some of these

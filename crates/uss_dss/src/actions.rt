@@ -5,7 +5,7 @@ ghost use Rattle.uss_law_dss.specs.Refusals.{refusal_of};
 ghost use Rattle.uss_law_dss.specs.Step.{accepted, new_ticket};
 
 use crate::Dss;
-use crate::changes::{found, put_ticket, remove_flight, remove_ticket, write_indices};
+use crate::changes::found;
 use crate::shown::shown;
 use std::alloc::AllocError;
 use uss_intent::{
@@ -34,7 +34,8 @@ impl Dss {
     pub(crate) fn query(&self, client: &Name, area: &Volume4) -> Result<DssReply, AllocError>
         ensures { IfOk result (λ reply. (reply, self.now) ≡ accepted self.now client.now (DssAsk.Query area.now)) }
     {
-        let found = found(self.alloc, &self.references, client, area)?;
+        let all = self.references.all(self.alloc)?;
+        let found = found(self.alloc, &all, client, area)?;
         Ok(DssReply::Found(References::from_vec(found)))
     }
 
@@ -69,7 +70,7 @@ impl Dss {
     {
         let new = new_ticket(client, ticket, area, base)?;
         let reply = new.clone()?;
-        put_ticket(&mut self.tickets, new)?;
+        self.tickets.put(new)?;
         Ok(DssReply::TicketMade(reply))
     }
 
@@ -87,8 +88,8 @@ impl Dss {
             Some(t) => t.clone()?,
             None => return Ok(DssReply::Refused(DssRefusal::Absent)),
         };
-        self.retired_tickets.push(reply.id)?;
-        remove_ticket(&mut self.tickets, reply.id);
+        self.retired_tickets.push(reply.id.number())?;
+        self.tickets.remove(reply.id);
         Ok(DssReply::TicketRemoved(reply))
     }
 
@@ -106,13 +107,13 @@ impl Dss {
             return Ok(DssReply::Refused(DssRefusal::Absent));
         };
         let reply = r.reference.clone()?;
-        let change = self.told_of_end(client, &r.extents)?;
-        self.retired_flights.push(reply.flight)?;
-        remove_flight(&mut self.references, reply.flight);
-        write_indices(&mut self.tickets, &change.indices);
+        let told = self.told_of_end(client, &r.extents)?;
+        self.retired_flights.push(reply.flight.number())?;
+        self.references.remove(reply.flight);
+        self.tickets.set_indices(&told);
         Ok(DssReply::Removed {
             reference: reply,
-            subscribers: Owed::from_vec(change.subscribers),
+            subscribers: Owed::from_vec(told),
         })
     }
 

@@ -1,18 +1,16 @@
-//! The parts of what calls do: new lists, made before anything is changed, and changes that want no memory.
+//! The parts of what calls do: new lists, made before anything is changed, and changes that are whole or none.
 
-ghost use Rattle.std.specs.Prelude.{◌≡◌, ◌+◌, ◌<◌, ◌++◌, map, filter, not, ◌==◌, length, IfOk, vec_len, vec_capacity, is_ok, if◌then◌else◌};
-ghost use Rattle.std.specs.Prelude.{◌^◌, ◌≤◌, ◌≢◌, nat_lt, nat_le, slice_index_or, slice_set, OnOk};
-ghost use Rattle.std.specs.Bool.{OnTrue, OnFalse};
-ghost use Rattle.std.specs.List.{prefix_len, insert};
+ghost use Rattle.std.specs.Prelude.{◌≡◌, ◌+◌, ◌<◌, ◌^◌, ◌++◌, [], ◌∷◌, List, map, IfOk, OnOk, OnErr};
+ghost use Rattle.uss_intent.specs.declared.records.Landing.{Landing};
 ghost use Rattle.uss_law_dss.specs.Service.{reach, digits, ovn_of};
 ghost use Rattle.uss_law_dss.specs.Refusals.{shown_all};
-ghost use Rattle.uss_law_dss.specs.Step.{is_told, subscribers, put_recorded, put_ticket, without_flight, without_ticket, found_in};
-ghost use Rattle.uss_dss.specs.Effects.{CanRise, index_after, with_indices};
+ghost use Rattle.uss_law_dss.specs.Step.{is_told, subscribers, put_recorded, found_in};
+ghost use Rattle.uss_dss.specs.Effects.{CanRise};
 
+use crate::records::Records;
 use crate::shown::shown;
-use std::alloc::{AllocError, AllocFailed, Global};
-use std::mem;
-use uss_intent::{FlightId, Name, Ovn, Recorded, Reference, Subscriber, Ticket, TicketId};
+use std::alloc::{AllocError, Global};
+use uss_intent::{Landing, Landings, Name, Ovn, Recorded, Reference, Subscriber, Ticket};
 use uss_vol4::Volume4;
 
 /// Whether some of the extents shares a point with the area.
@@ -22,14 +20,14 @@ pub(crate) fn reaches(extents: &[Volume4], area: &Volume4) -> bool
     extents.iter().any(|v| Volume4::shares(v, area))
 }
 
-/// The references whose extents share a point with the area, as they are shown to the client.
+/// Of these references those whose extents share a point with the area, as they are shown to the client.
 pub(crate) fn found(
     alloc: Global,
-    references: &[Recorded],
+    references: &[&Recorded],
     client: &Name,
     area: &Volume4,
 ) -> Result<Vec<Reference>, AllocError>
-    ensures { IfOk result (λ v. v.items ≡ shown_all client.now (found_in area.now references.now)) }
+    ensures { IfOk result (λ v. v.items ≡ shown_all client.now (found_in area.now (map (λ r. r.now) references.now))) }
 {
     let mut found = Vec::new(alloc);
     for r in references {
@@ -47,13 +45,6 @@ fn is_told(client: &Name, old: &[Volume4], new: &[Volume4], ticket: &Ticket) -> 
     ticket.manager != *client && (reaches(old, &ticket.area) || reaches(new, &ticket.area))
 }
 
-/// What a change of a reference makes of the tickets: their indices after it, in their order, and the subscribers.
-#[derive(Drop)]
-pub(crate) struct TicketChange {
-    pub(crate) indices: Vec<u64>,
-    pub(crate) subscribers: Vec<Subscriber>,
-}
-
 fn subscriber(ticket: &Ticket) -> Result<Subscriber, AllocError>
     requires { ticket.now.index + 1 < 2 ^ 64 }
     ensures { IfOk result (λ s. s ≡ record { base = ticket.now.base; ticket = ticket.now.id; index = ticket.now.index + 1 }) }
@@ -65,130 +56,48 @@ fn subscriber(ticket: &Ticket) -> Result<Subscriber, AllocError>
     })
 }
 
-/// Who is told of a change from the old extents to the new ones.
+/// Who of these tickets' managers is told of a change from the old extents to the new ones.
 pub(crate) fn told(
     alloc: Global,
     client: &Name,
     old: &[Volume4],
     new: &[Volume4],
-    tickets: &[Ticket],
-) -> Result<TicketChange, AllocError>
-    requires { CanRise tickets.now }
-    ensures indices { IfOk result (λ t. t.indices.items ≡ map (index_after client.now (old.now ++ new.now)) tickets.now) }
-    ensures subscribers { IfOk result (λ t. t.subscribers.items ≡ subscribers client.now (old.now ++ new.now) tickets.now) }
+    tickets: &[&Ticket],
+) -> Result<Vec<Subscriber>, AllocError>
+    requires { CanRise (map (λ t. t.now) tickets.now) }
+    ensures { IfOk result (λ told. told.items ≡ subscribers client.now (old.now ++ new.now) (map (λ t. t.now) tickets.now)) }
 {
-    let mut indices = Vec::with_capacity(alloc, tickets.len())?;
     let mut told = Vec::new(alloc);
     for t in tickets {
         if is_told(client, old, new, t) {
-            let s = subscriber(t)?;
-            indices.push(s.index)?;
-            told.push(s)?;
-        } else {
-            indices.push(t.index)?;
+            told.push(subscriber(t)?)?;
         }
     }
-    Ok(TicketChange {
-        indices,
-        subscribers: told,
-    })
+    Ok(told)
 }
 
-/// Writes the tickets' new indices.
-pub(crate) fn write_indices(tickets: &mut Vec<Ticket>, indices: &[u64])
-    requires { length indices.now ≡ vec_len tickets.old }
-    ensures { tickets.new.items ≡ with_indices indices.now tickets.old.items }
+fn take_back(landings: &mut Landings)
+    ensures { (l : List Landing) (x : Landing) → landings.old ≡ l ++ x ∷ [] → landings.new ≡ l }
 {
-    for (i, n) in indices.iter().enumerate() {
-        let t = &mut tickets[i];
-        t.index = *n;
+    let _ = landings.pop();
+}
+
+/// Records a landing: the reference in its place, and its place in the history. Want of memory changes nothing.
+pub(crate) fn record(
+    references: &mut Records,
+    landings: &mut Landings,
+    new: Recorded,
+    landing: Landing,
+) -> Result<(), AllocError>
+    ensures ok { OnOk result ((references.new ≡ put_recorded new references.old) × (landings.new ≡ landings.old ++ landing ∷ [])) }
+    ensures err { OnErr result ((references.new ≡ references.old) × (landings.new ≡ landings.old)) }
+{
+    landings.push(landing)?;
+    if let Err(wanting) = references.put(new) {
+        take_back(landings);
+        return Err(wanting);
     }
-}
-
-/// The number of references of flights before this one.
-fn place_of_flight(references: &[Recorded], flight: FlightId) -> usize
-    ensures place { result ≡ prefix_len (λ r. nat_lt r.reference.flight flight) references.now }
-    ensures within { result ≤ length references.now }
-{
-    references
-        .iter()
-        .take_while(|r| r.reference.flight < flight)
-        .count()
-}
-
-/// The number of tickets with an identifier no greater than this one.
-fn place_of_ticket(tickets: &[Ticket], id: TicketId) -> usize
-    ensures place { result ≡ prefix_len (λ t. nat_le t.id id) tickets.now }
-    ensures within { result ≤ length tickets.now }
-{
-    tickets.iter().take_while(|t| t.id <= id).count()
-}
-
-fn has_flight_at(references: &[Recorded], place: usize, flight: FlightId) -> bool
-    ensures no { OnFalse result ((d : Recorded) → place < length references.now → (slice_index_or references.now place d).reference.flight ≢ flight) }
-    ensures yes { OnTrue result ((d : Recorded) → (place < length references.now) × ((slice_index_or references.now place d).reference.flight ≡ flight)) }
-{
-    match references.get(place) {
-        Some(r) => r.reference.flight == flight,
-        None => false,
-    }
-}
-
-fn flight_of(r: &Recorded) -> FlightId
-    ensures { result ≡ r.now.reference.flight }
-{
-    r.reference.flight
-}
-
-fn replace_at(references: &mut Vec<Recorded>, place: usize, new: Recorded)
-    requires { place < vec_len references.old }
-    ensures { references.new.items ≡ slice_set references.old.items place new }
-{
-    let _ = mem::replace(&mut references[place], new);
-}
-
-fn insert_at(references: &mut Vec<Recorded>, place: usize, new: Recorded)
-    requires within { place ≤ vec_len references.old }
-    requires room { vec_len references.old < vec_capacity references.old }
-    ensures { references.new.items ≡ insert references.old.items place new }
-{
-    let _ = references.insert(place, new);
-}
-
-/// Puts the reference into its place by flight, or into the place of the one of its flight.
-pub(crate) fn put_recorded(references: &mut Vec<Recorded>, new: Recorded)
-    requires { vec_len references.old < vec_capacity references.old }
-    ensures { references.new.items ≡ put_recorded new references.old.items }
-{
-    let flight = flight_of(&new);
-    let place = place_of_flight(references, flight);
-    if has_flight_at(references, place, flight) {
-        replace_at(references, place, new);
-    } else {
-        insert_at(references, place, new);
-    }
-}
-
-/// Puts the ticket into its place by identifier. Want of memory changes nothing.
-pub(crate) fn put_ticket(tickets: &mut Vec<Ticket>, new: Ticket) -> Result<(), AllocFailed<Ticket>>
-    ensures { tickets.new.items ≡ (if is_ok result then put_ticket new tickets.old.items else tickets.old.items) }
-{
-    let place = place_of_ticket(tickets, new.id);
-    tickets.insert(place, new)
-}
-
-/// Takes the flight's reference out.
-pub(crate) fn remove_flight(references: &mut Vec<Recorded>, flight: FlightId)
-    ensures { references.new.items ≡ without_flight flight references.old.items }
-{
-    references.retain(|r| r.reference.flight != flight);
-}
-
-/// Takes the ticket out.
-pub(crate) fn remove_ticket(tickets: &mut Vec<Ticket>, id: TicketId)
-    ensures { tickets.new.items ≡ without_ticket id tickets.old.items }
-{
-    tickets.retain(|t| t.id != id);
+    Ok(())
 }
 
 /// Puts the last digits of the number at the end of the text, so many.

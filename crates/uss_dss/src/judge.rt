@@ -6,10 +6,14 @@ ghost use Rattle.std.specs.Bool.{OnFalse};
 ghost use Rattle.uss_law_dss.specs.Service.{has_ovn, ticket_of, recorded_of, lies_in, lacking, relevant};
 ghost use Rattle.uss_law_dss.specs.Refusals.{is_others, is_others_ticket, is_stale, is_stale_change, is_no_ticket_of, is_uncovered, is_cited, is_at_last_version, is_bad_put, vertex_count, refusal_of, put_tests, first_of, tests_of};
 ghost use Rattle.uss_vol4.specs.Volume.{Volume4D};
+ghost use Rattle.uss_intent.specs.Limits.{most_extents};
 
 use crate::Dss;
 use std::alloc::AllocError;
-use uss_intent::{DssAsk, DssRefusal, FlightId, Name, Ovn, Ovns, Ticket, TicketId, Volumes};
+use uss_intent::{
+    DssAsk, DssRefusal, FlightId, MOST_EXTENTS, MOST_OVNS, MOST_TICKETS, MOST_VERTICES, Name, Ovn,
+    Ovns, Ticket, TicketId, Volumes,
+};
 use uss_vol4::{Box4, Volume4};
 
 impl Dss {
@@ -17,7 +21,7 @@ impl Dss {
     pub(crate) fn ticket(&self, id: TicketId) -> Option<&Ticket>
         ensures { option_copied result ≡ ticket_of id self.now }
     {
-        self.tickets.iter().find(|t| t.id == id)
+        self.tickets.get(id)
     }
 
     pub(crate) fn is_recorded(&self, flight: FlightId) -> bool
@@ -97,7 +101,7 @@ impl Dss {
     pub(crate) fn is_cited(&self, ticket: TicketId) -> bool
         ensures { result ≡ is_cited ticket self.now.references }
     {
-        self.references.iter().any(|r| r.reference.ticket == ticket)
+        self.references.cites(ticket)
     }
 
     /// Whether what is recorded of the flight has the greatest version.
@@ -152,8 +156,8 @@ impl Dss {
         if self.ticket_retired(ticket) {
             return Some(DssRefusal::Retired);
         }
-        if self.tickets.len() >= 8192 {
-            return Some(DssRefusal::Full(8192));
+        if self.tickets.len() >= MOST_TICKETS {
+            return Some(DssRefusal::Full(MOST_TICKETS as u64));
         }
         None
     }
@@ -263,7 +267,7 @@ fn vertices_of(volume: &Volume4) -> usize
 
 /// How many vertices the volumes have together.
 fn vertex_count(extents: &[Volume4]) -> usize
-    requires { length extents.now ≤ 64 }
+    requires { length extents.now ≤ most_extents }
     ensures { result ≡ vertex_count extents.now }
 {
     let mut count: usize = 0;
@@ -279,9 +283,9 @@ pub(crate) fn is_bad_put(extents: &Volumes, key: &Ovns) -> bool
     ensures some { OnFalse result (0 < length extents.now) }
 {
     extents.is_empty()
-        || extents.len() > 64
-        || vertex_count(extents.as_slice()) > 10_000
-        || key.len() > 1024
+        || extents.len() > MOST_EXTENTS
+        || vertex_count(extents.as_slice()) > MOST_VERTICES
+        || key.len() > MOST_OVNS
 }
 
 impl Dss {

@@ -1,6 +1,6 @@
 //! Why a Put is refused.
 
-ghost use Rattle.std.specs.Prelude.{◌≡◌, ℕ, List, ◌==◌, ◌<◌, not, ◌&&◌, length, filter, true, IfOk};
+ghost use Rattle.std.specs.Prelude.{◌≡◌, ℕ, List, ◌==◌, ◌<◌, not, ◌&&◌, length, filter, map, true, IfOk};
 ghost use Rattle.uss_law_dss.specs.Service.{in_key, lacking, relevant, shown_to};
 ghost use Rattle.uss_vol4.specs.Sharing.{any_shares};
 ghost use Rattle.uss_law_dss.specs.Refusals.{shown_all};
@@ -14,8 +14,8 @@ use crate::shown::shown;
 use std::alloc::{AllocError, Global};
 use std::collections::BTreeMap;
 use uss_intent::{
-    DssRefusal, FlightId, Name, Ovn, Ovns, Recorded, Reference, References, State, TicketId,
-    Volumes,
+    DssRefusal, FlightId, LAST_VERSION, MOST_LANDINGS, MOST_REFERENCES, Name, Ovn, Ovns, Recorded,
+    Reference, References, State, TicketId, Volumes,
 };
 use uss_vol4::Volume4;
 
@@ -70,7 +70,8 @@ impl Dss {
         if !state.is_strategic() {
             return Ok(None);
         }
-        let missing = missing(self.alloc, &self.references, client, flight, extents, key)?;
+        let all = self.references.all(self.alloc)?;
+        let missing = missing(self.alloc, &all, client, flight, extents, key)?;
         Ok(of_missing(missing))
     }
 
@@ -78,14 +79,14 @@ impl Dss {
     fn judge_room(&self, flight: FlightId, ovn: &Option<Ovn>) -> Option<DssRefusal>
         ensures { result ≡ room_refusal self.now flight ovn.now }
     {
-        if ovn.is_none() && self.references.len() >= 4096 {
-            return Some(DssRefusal::Full(4096));
+        if ovn.is_none() && self.references.len() >= MOST_REFERENCES {
+            return Some(DssRefusal::Full(MOST_REFERENCES as u64));
         }
         if self.is_at_last_version(flight) {
-            return Some(DssRefusal::Full(4_294_967_295));
+            return Some(DssRefusal::Full(LAST_VERSION as u64));
         }
-        if self.landings.len() >= 9_999_999_999_999_999 {
-            return Some(DssRefusal::Full(9_999_999_999_999_999));
+        if self.landings.len() >= MOST_LANDINGS {
+            return Some(DssRefusal::Full(MOST_LANDINGS as u64));
         }
         None
     }
@@ -128,16 +129,16 @@ fn of_missing(missing: Vec<Reference>) -> Option<DssRefusal>
     Some(DssRefusal::MissingKey(References::from_vec(missing)))
 }
 
-/// The references that the key lacks, as they are shown to the client.
+/// Of these references those that the key lacks, as they are shown to the client.
 fn missing(
     alloc: Global,
-    references: &[Recorded],
+    references: &[&Recorded],
     client: &Name,
     flight: FlightId,
     extents: &Volumes,
     key: &Ovns,
 ) -> Result<Vec<Reference>, AllocError>
-    ensures { IfOk result (λ v. v.items ≡ shown_all client.now (filter (is_missing flight extents.now key.now) references.now)) }
+    ensures { IfOk result (λ v. v.items ≡ shown_all client.now (filter (is_missing flight extents.now key.now) (map (λ r. r.now) references.now))) }
 {
     let set = key_set(alloc, key.as_slice())?;
     let mut missing = Vec::new(alloc);

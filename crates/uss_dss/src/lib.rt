@@ -1,5 +1,11 @@
-//! The discovery service (the DSS of ASTM F3548-21) in the small, over plain lists: references of operational
+//! The discovery service (the DSS of ASTM F3548-21) in the small, over ordered maps: references of operational
 //! intents with their extents, tickets, identifiers that are never used again, and the history of landings.
+//!
+//! ```
+//! let mut service = Dss::new(alloc);
+//! let reply = service.step(&client, &DssAsk::Get { flight: flight_id(1, 1) })?;
+//! assert!(rt; reply == DssReply::Refused(DssRefusal::Absent)); // nothing is recorded yet
+//! ```
 //!
 //! `Dss::step` answers a client's call. `uss_law_dss` defines each reply and the state after it.
 #![tactic(auto)]
@@ -17,13 +23,18 @@ mod judge;
 mod judge_put;
 mod key;
 mod put;
+mod records;
+mod retired;
 mod shown;
+mod tickets;
 
+use crate::records::Records;
+use crate::retired::Retired;
+use crate::tickets::Tickets;
 use std::alloc::{AllocError, Global};
 use std::marker::Model;
 use uss_intent::{
-    DssAsk, DssRefusal, DssReply, FlightId, Landings, Name, Recorded, Reference, Ticket, TicketId,
-    Volumes,
+    DssAsk, DssRefusal, DssReply, FlightId, Landings, Name, Recorded, Reference, TicketId, Volumes,
 };
 
 /// The discovery service. A contract sees its state: the references with their extents, ascending by flight, the
@@ -31,10 +42,10 @@ use uss_intent::{
 #[derive(Drop)]
 pub struct Dss {
     alloc: Global,
-    references: Vec<Recorded>,
-    tickets: Vec<Ticket>,
-    retired_flights: Vec<FlightId>,
-    retired_tickets: Vec<TicketId>,
+    references: Records,
+    tickets: Tickets,
+    retired_flights: Retired,
+    retired_tickets: Retired,
     landings: Landings,
 }
 
@@ -44,9 +55,9 @@ impl Model for Dss {
 
     ghost Value = { Service };
 
-    ghost view = { λ d. record { references = d.references.items; tickets = d.tickets.items; retired_flights = d.retired_flights.items; retired_tickets = d.retired_tickets.items; landings = d.landings } };
+    ghost view = { λ d. record { references = d.references; tickets = d.tickets; retired_flights = d.retired_flights; retired_tickets = d.retired_tickets; landings = d.landings } };
 
-    ghost invariant = { λ d. IsOrderly (record { references = d.references.items; tickets = d.tickets.items; retired_flights = d.retired_flights.items; retired_tickets = d.retired_tickets.items; landings = d.landings }) };
+    ghost invariant = { λ d. IsOrderly (record { references = d.references; tickets = d.tickets; retired_flights = d.retired_flights; retired_tickets = d.retired_tickets; landings = d.landings }) };
 }
 
 impl Dss {
@@ -56,10 +67,10 @@ impl Dss {
     {
         Dss {
             alloc,
-            references: Vec::new(alloc),
-            tickets: Vec::new(alloc),
-            retired_flights: Vec::new(alloc),
-            retired_tickets: Vec::new(alloc),
+            references: Records::new(alloc),
+            tickets: Tickets::new(alloc),
+            retired_flights: Retired::new(alloc),
+            retired_tickets: Retired::new(alloc),
             landings: Landings::new(alloc),
         }
     }
@@ -68,7 +79,7 @@ impl Dss {
     pub fn reference(&self, n: usize) -> Option<&Reference>
         ensures { option_copied result ≡ option_map (λ r. r.reference) (slice_get self.now.references n) }
     {
-        match self.references.get(n) {
+        match self.references.nth(n) {
             Some(r) => Some(&r.reference),
             None => None,
         }
@@ -88,14 +99,14 @@ impl Dss {
     pub fn flight_retired(&self, flight: FlightId) -> bool
         ensures { result ≡ is_one_of flight self.now.retired_flights }
     {
-        self.retired_flights.iter().any(|f| *f == flight)
+        self.retired_flights.has(flight.number())
     }
 
     /// Whether the ticket was removed, so that its identifier is never used again. Takes no memory.
     pub fn ticket_retired(&self, ticket: TicketId) -> bool
         ensures { result ≡ is_one_of ticket self.now.retired_tickets }
     {
-        self.retired_tickets.iter().any(|t| *t == ticket)
+        self.retired_tickets.has(ticket.number())
     }
 
     /// The history: each creation and change of a reference, oldest first. Takes no memory.
@@ -108,9 +119,7 @@ impl Dss {
     fn recorded(&self, flight: FlightId) -> Option<&Recorded>
         ensures { option_copied result ≡ recorded_of flight self.now }
     {
-        self.references
-            .iter()
-            .find(|r| r.reference.flight == flight)
+        self.references.get(flight)
     }
 
     /// Why the call is refused, if it is: the first of the call's refusals, in the order of their numbers, whose test holds. Want of

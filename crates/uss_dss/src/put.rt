@@ -1,19 +1,19 @@
 //! What a Put does, once it isn't refused.
 
-ghost use Rattle.std.specs.Prelude.{◌≡◌, ◌<◌, ◌+◌, ◌==◌, ◌++◌, false, length, unwrap_or, IfOk, OnErr, map};
+ghost use Rattle.std.specs.Prelude.{◌≡◌, ◌<◌, ◌+◌, ◌==◌, ◌++◌, false, length, unwrap_or, IfOk, OnErr};
 ghost use Rattle.uss_intent.specs.Tags.{tag_of};
 ghost use Rattle.uss_law_dss.specs.Service.{recorded_of, ovn_of};
 ghost use Rattle.uss_law_dss.specs.Refusals.{is_at_last_version};
 ghost use Rattle.uss_law_dss.specs.Orderly.{IsOrderly};
 ghost use Rattle.uss_law_dss.specs.Step.{after_put, landed, landing_of, next_version, next_landing, old_extents, subscribers};
-ghost use Rattle.uss_dss.specs.Effects.{index_after};
+ghost use Rattle.uss_intent.specs.Limits.{last_version};
 
 use crate::Dss;
-use crate::changes::{TicketChange, ovn_of, put_recorded, told, write_indices};
+use crate::changes::{ovn_of, record, told};
 use std::alloc::AllocError;
 use uss_intent::{
-    Base, DssReply, FlightId, Landing, Name, Ovn, Owed, Recorded, Reference, State, TicketId,
-    Volumes, tag_of,
+    Base, DssReply, FlightId, Landing, Name, Ovn, Owed, Recorded, Reference, State, Subscriber,
+    TicketId, Volumes, tag_of,
 };
 use uss_vol4::Volume4;
 
@@ -24,7 +24,7 @@ fn tag_or_zero(base: &Base) -> u64
 }
 
 fn version_after(r: &Recorded) -> u32
-    requires { (r.now.reference.version == 4294967295) ≡ false }
+    requires { (r.now.reference.version == last_version) ≡ false }
     ensures { result ≡ r.now.reference.version + 1 }
 {
     let version = r.reference.version;
@@ -112,24 +112,24 @@ impl Dss {
         client: &Name,
         flight: FlightId,
         extents: &Volumes,
-    ) -> Result<TicketChange, AllocError>
-        ensures indices { IfOk result (λ c. c.indices.items ≡ map (index_after client.now (old_extents (recorded_of flight self.now) ++ extents.now)) self.now.tickets) }
-        ensures subscribers { IfOk result (λ c. c.subscribers.items ≡ subscribers client.now (old_extents (recorded_of flight self.now) ++ extents.now) self.now.tickets) }
+    ) -> Result<Vec<Subscriber>, AllocError>
+        ensures { IfOk result (λ told. told.items ≡ subscribers client.now (old_extents (recorded_of flight self.now) ++ extents.now) self.now.tickets) }
     {
         let old = self.old_extents(flight);
-        told(self.alloc, client, old, extents.as_slice(), &self.tickets)
+        let all = self.tickets.all(self.alloc)?;
+        told(self.alloc, client, old, extents.as_slice(), &all)
     }
 
-    /// What the end of a reference with these extents makes of the tickets.
+    /// Who is told of the end of a reference with these extents.
     pub(crate) fn told_of_end(
         &self,
         client: &Name,
         extents: &Volumes,
-    ) -> Result<TicketChange, AllocError>
-        ensures indices { IfOk result (λ c. c.indices.items ≡ map (index_after client.now extents.now) self.now.tickets) }
-        ensures subscribers { IfOk result (λ c. c.subscribers.items ≡ subscribers client.now extents.now self.now.tickets) }
+    ) -> Result<Vec<Subscriber>, AllocError>
+        ensures { IfOk result (λ told. told.items ≡ subscribers client.now extents.now self.now.tickets) }
     {
-        told(self.alloc, client, &[], extents.as_slice(), &self.tickets)
+        let all = self.tickets.all(self.alloc)?;
+        told(self.alloc, client, &[], extents.as_slice(), &all)
     }
 
     /// Records the landing. The caller has found that the Put isn't refused.
@@ -151,15 +151,13 @@ impl Dss {
     {
         let recorded = self.landed(client, flight, extents, state, base, ticket)?;
         let landing = self.landing(client, flight, ovn, base, ticket)?;
-        let change = self.told_of_change(client, flight, extents)?;
+        let told = self.told_of_change(client, flight, extents)?;
         let reply = recorded.reference.clone()?;
-        self.references.reserve(1)?;
-        self.landings.push(landing)?;
-        put_recorded(&mut self.references, recorded);
-        write_indices(&mut self.tickets, &change.indices);
+        record(&mut self.references, &mut self.landings, recorded, landing)?;
+        self.tickets.set_indices(&told);
         Ok(DssReply::Landed {
             reference: reply,
-            subscribers: Owed::from_vec(change.subscribers),
+            subscribers: Owed::from_vec(told),
         })
     }
 }

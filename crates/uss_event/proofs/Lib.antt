@@ -3,3 +3,4 @@ pub mod Tables
 pub mod Accepted
 mod Ascending
 mod Searched
+mod SharedExtents

@@ -6,3 +6,5 @@ pub mod Verdicts
 pub mod Refusals
 pub mod Same
 pub mod Fits
+pub mod Candidates
+pub mod Heard

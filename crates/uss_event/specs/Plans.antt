@@ -4,6 +4,7 @@ use Rattle.std.specs.Prelude.{ℕ, ◌+◌, Bool, true, false, ◌&&◌, ◌||�
 use Rattle.std.specs.List.{list_all, list_any}
 use Rattle.std.specs.Ordering.{int_eq}
 use Rattle.uss_vol4.specs.Volume.{Volume4D}
+use Rattle.uss_intent.specs.Limits.{most_extents, most_vertices}
 use Rattle.uss_intent.specs.declared.records.State.{State}
 use Rattle.uss_intent.specs.declared.records.State.TheVariants.{Accepted, Activated, Nonconforming, Contingent}
 use Rattle.uss_event.specs.declared.details.Details.{Details}
@@ -23,7 +24,7 @@ may_be_off_nominal Contingent = true
 -- Nonconforming and Contingent; and a priority from 0 to 1000
 unfoldable pub is_plan : State → List Volume4D → List Volume4D → ℕ → Bool
 is_plan state volumes off_nominal priority =
-    nat_le (length volumes + length off_nominal) 64 && (nat_le (vertex_count volumes + vertex_count off_nominal) 10000
+    nat_le (length volumes + length off_nominal) most_extents && (nat_le (vertex_count volumes + vertex_count off_nominal) most_vertices
     && ((may_be_off_nominal state || nat_le (length off_nominal) 0) && (nat_lt 0 (length volumes + length off_nominal) && nat_le priority 1000)))
 
 -- the extents of an intent: its volumes followed by its off-nominal volumes

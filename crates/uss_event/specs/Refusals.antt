@@ -1,6 +1,7 @@
 -- Why volumes, a state and a priority are no details, and the numbers under which this is printed. This project's own.
 use Rattle.std.specs.Prelude.{◌≡◌, ◌⊎◌, ℕ, ◌+◌, ◌==◌, not, ◌&&◌, nat_lt, List, length, Option, Some, None, Result, Ok, Err, if◌then◌else◌}
 use Rattle.uss_vol4.specs.Volume.{Volume4D}
+use Rattle.uss_intent.specs.Limits.{most_extents, most_vertices}
 use Rattle.uss_intent.specs.declared.records.State.{State}
 use Rattle.uss_event.specs.declared.details.Details.{Details}
 use Rattle.uss_event.specs.Plans.{vertex_count, may_be_off_nominal}
@@ -23,8 +24,8 @@ IsPriorityRefusal refusal = (refusal ≡ PriorityRange) ⊎ (refusal ≡ Memory)
 -- the first reason why these are no details, in the order of the numbers; none where they are
 unfoldable pub refusal_of : State → List Volume4D → List Volume4D → ℕ → Option DetailsRefusal
 refusal_of state volumes off_nominal priority =
-    if nat_lt 64 (length volumes + length off_nominal) then Some TooManyVolumes
-    else if nat_lt 10000 (vertex_count volumes + vertex_count off_nominal) then Some TooManyVertices
+    if nat_lt most_extents (length volumes + length off_nominal) then Some TooManyVolumes
+    else if nat_lt most_vertices (vertex_count volumes + vertex_count off_nominal) then Some TooManyVertices
     else if not (may_be_off_nominal state) && nat_lt 0 (length off_nominal) then Some OffNominalNotAllowed
     else if length volumes + length off_nominal == 0 then Some NoVolume
     else if is_too_great priority then Some PriorityRange

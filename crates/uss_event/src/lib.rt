@@ -1,5 +1,18 @@
 //! The words of a supplier (a USS of ASTM F3548-21): what it is asked, what it enters into its book, what it calls, hears and
-//! says, and the steps of a world of several suppliers.
+//! says, and the steps of a world of several suppliers; and the rules of strategic coordination: from which state an operational
+//! intent may go to which, and what comes of holding one against another (strategic conflict detection).
+//!
+//! ```
+//! let table = RuleTable::of(alloc, &[0, 100])?;
+//! assert!(rt; table.forbids(100) && !table.forbids(5));
+//! assert!(rt; may_go(Some(State::Accepted), State::Activated));
+//! let pair = Pair::of(reference, details).ok_or("no pair")?;
+//! match verdict(&table, &candidate, &pair, None) {
+//!     Verdict::Clear => println!(rt; "nothing stands against it")?,
+//!     Verdict::EqualForbidden => println!(rt; "a flight of its priority stands")?,
+//!     Verdict::HigherStands => println!(rt; "a flight of a higher priority stands")?,
+//! }
+//! ```
 //!
 //! A contract sees a pair as its reference with its details, a table of rules as the list of its priorities, a list as the list of
 //! its items, and every other type as it is declared.
@@ -14,6 +27,8 @@ mod pairs;
 mod refusals;
 mod rules;
 mod steps;
+mod transitions;
+mod verdicts;
 
 pub use asks::{AskField, AskRefusal, Conform, FlightAsk, PositionAsk, Wish};
 pub use calls::{DssCall, Note, Outgoing, PeerCall, PeerReply, Sends};
@@ -24,3 +39,5 @@ pub use pairs::{Pair, Pairs, refusal_of};
 pub use refusals::DetailsRefusal;
 pub use rules::{RuleTable, Verdict};
 pub use steps::{Message, Party, Step, Stopped, WorldSteps};
+pub use transitions::may_go;
+pub use verdicts::{verdict, verdict_of};

@@ -5,11 +5,12 @@ ghost use Rattle.std.specs.Ordering.{int_eq};
 ghost use Rattle.uss_event.specs.Plans.{is_plan, vertex_count, extents_of, may_be_off_nominal, is_least_start, is_greatest_end};
 ghost use Rattle.uss_event.specs.Pairs.{is_pair, pair_from};
 ghost use Rattle.uss_event.specs.Refusals.{refusal_of};
+ghost use Rattle.uss_intent.specs.Limits.{most_extents};
 
 use crate::{Details, DetailsRefusal};
 use std::alloc::AllocError;
 use std::marker::Model;
-use uss_intent::{Reference, Sequence, State};
+use uss_intent::{MOST_EXTENTS, MOST_VERTICES, Reference, Sequence, State};
 use uss_vol4::Volume4;
 
 /// An operational intent: a reference that shows its OVN, with the details that it is the reference of
@@ -56,10 +57,10 @@ fn may_be_off_nominal(state: State) -> bool
 }
 
 fn are_few(volumes: &[Volume4], off_nominal: &[Volume4]) -> bool
-    ensures test { result ≡ nat_le (length volumes.now + length off_nominal.now) 64 }
-    ensures bound { OnTrue result (length volumes.now + length off_nominal.now ≤ 64) }
+    ensures test { result ≡ nat_le (length volumes.now + length off_nominal.now) most_extents }
+    ensures bound { OnTrue result (length volumes.now + length off_nominal.now ≤ most_extents) }
 {
-    volumes.len() <= 64 && off_nominal.len() <= 64 - volumes.len()
+    volumes.len() <= MOST_EXTENTS && off_nominal.len() <= MOST_EXTENTS - volumes.len()
 }
 
 fn are_some(volumes: &[Volume4], off_nominal: &[Volume4]) -> bool
@@ -76,7 +77,7 @@ fn vertices_of(volume: &Volume4) -> usize
 }
 
 fn vertex_count(volumes: &[Volume4]) -> usize
-    requires { length volumes.now ≤ 64 }
+    requires { length volumes.now ≤ most_extents }
     ensures value { result ≡ vertex_count volumes.now }
     ensures bound { result ≤ 64000 }
 {
@@ -94,7 +95,7 @@ fn is_plan(state: State, details: &Details) -> bool
     let volumes = details.volumes.as_slice();
     let off_nominal = details.off_nominal.as_slice();
     are_few(volumes, off_nominal)
-        && vertex_count(volumes) + vertex_count(off_nominal) <= 10_000
+        && vertex_count(volumes) + vertex_count(off_nominal) <= MOST_VERTICES
         && (may_be_off_nominal(state) || off_nominal.is_empty())
         && are_some(volumes, off_nominal)
         && details.priority <= 1000
@@ -114,7 +115,7 @@ pub fn refusal_of(
     if !are_few(volumes, off_nominal) {
         return Some(DetailsRefusal::TooManyVolumes);
     }
-    if vertex_count(volumes) + vertex_count(off_nominal) > 10_000 {
+    if vertex_count(volumes) + vertex_count(off_nominal) > MOST_VERTICES {
         return Some(DetailsRefusal::TooManyVertices);
     }
     if !may_be_off_nominal(state) && !off_nominal.is_empty() {

@@ -1,12 +1,12 @@
 -- The answer of reading a response, with the refusals of messages.
 use Rattle.std.proofs.Common.{ℕ, List, ◌++◌, Option, Ok, Err}
 use Rattle.uss_link.specs.Talks.{Talk}
-use Rattle.uss_http_base.specs.declared.refusal.ReadRefusal.{ReadRefusal}
-use Rattle.uss_http_base.specs.declared.refusal.ReadRefusal.TheVariants as read
+use Rattle.uss_http_request.specs.declared.refusal.ReadRefusal.{ReadRefusal}
+use Rattle.uss_http_request.specs.declared.refusal.ReadRefusal.TheVariants as read
 use Rattle.uss_http_response.specs.declared.response.Response.{Response}
 use Rattle.uss_http_response.specs.Responses.{IsAnswerOf}
 use Rattle.uss_http_response.specs.Dials.{IsReceived}
-use Rattle.uss_http_base.specs.Prompt as prompt
+use Rattle.uss_http_request.specs.Prompt as prompt
 use Rattle.uss_http.specs.Refusals.{refusal_of, refusal_over, UnlessFault}
 use Rattle.uss_http.specs.Responses.{IsReadOf, IsReadOver}
 

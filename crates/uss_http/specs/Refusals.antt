@@ -1,9 +1,9 @@
 -- Refusals of messages, with their numbers. This project's own.
-use Rattle.std.specs.Prelude.{ℕ, List, Result, Ok, Err}
-use Rattle.uss_http_base.specs.declared.refusal.ReadRefusal.{ReadRefusal}
-use Rattle.uss_http_base.specs.declared.refusal.ReadRefusal.TheVariants as read
-use Rattle.uss_http_base.specs.declared.request.Request.{Request}
-use Rattle.uss_http_base.specs.Requests.{IsRequest, IsRefused}
+use Rattle.std.specs.Prelude.{ℕ, List, Option, Some, None, Result, Ok, Err}
+use Rattle.uss_http_request.specs.declared.refusal.ReadRefusal.{ReadRefusal}
+use Rattle.uss_http_request.specs.declared.refusal.ReadRefusal.TheVariants as read
+use Rattle.uss_http_request.specs.declared.request.Request.{Request}
+use Rattle.uss_http_request.specs.Requests.{IsRequest, IsRefused}
 use Rattle.uss_http.specs.declared.refusal.HttpRefusal.{HttpRefusal}
 use Rattle.uss_http.specs.declared.refusal.HttpRefusal.TheVariants as refusal
 
@@ -29,19 +29,19 @@ refusal_over read.NoClient = refusal.NoClient
 refusal_over read.Fault = refusal.DialFault
 refusal_over read.Memory = refusal.Memory
 
--- the number of a refusal, 0 for a fault and for want of memory
-abbrev pub refusal_number : HttpRefusal → ℕ
-refusal_number refusal.HeadTooLarge = 431
-refusal_number refusal.BadHead = 432
-refusal_number refusal.BodyTooLarge = 433
-refusal_number refusal.BadChunk = 434
-refusal_number refusal.Truncated = 435
-refusal_number refusal.NoRoute = 436
-refusal_number (refusal.WrongMethod allowed) = 437
-refusal_number refusal.NoClient = 438
-refusal_number refusal.ReadFault = 0
-refusal_number refusal.DialFault = 0
-refusal_number refusal.Memory = 0
+-- the number of a refusal, none for a fault and for want of memory
+abbrev pub number_of : HttpRefusal → Option ℕ
+number_of refusal.HeadTooLarge = Some 431
+number_of refusal.BadHead = Some 432
+number_of refusal.BodyTooLarge = Some 433
+number_of refusal.BadChunk = Some 434
+number_of refusal.Truncated = Some 435
+number_of refusal.NoRoute = Some 436
+number_of (refusal.WrongMethod allowed) = Some 437
+number_of refusal.NoClient = Some 438
+number_of refusal.ReadFault = None
+number_of refusal.DialFault = None
+number_of refusal.Memory = None
 
 -- the answer of reading, for bytes that are all that a source had left: the request at their front, or why there is
 -- none; of a fault and of want of memory the bytes say nothing

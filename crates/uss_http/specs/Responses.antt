@@ -1,8 +1,8 @@
 -- What reading a response over a dial answers. This project's own.
 use Rattle.std.specs.Prelude.{◌≡◌, ℕ, Bool, List, [], ◌++◌, Option, Some, Result, Ok, Err, IsTrue}
 use Rattle.uss_link.specs.Talks.{Talk}
-use Rattle.uss_http_base.specs.declared.refusal.ReadRefusal.TheVariants as read
-use Rattle.uss_http_base.specs.Dials.{heard, is_over}
+use Rattle.uss_http_request.specs.declared.refusal.ReadRefusal.TheVariants as read
+use Rattle.uss_http_request.specs.Dials.{heard, is_over}
 use Rattle.uss_http_response.specs.declared.response.Response.{Response}
 use Rattle.uss_http_response.specs.Responses.{IsResponse, IsRefused}
 use Rattle.uss_http.specs.declared.refusal.HttpRefusal.{HttpRefusal}

@@ -1,7 +1,7 @@
 -- The bytes of requests and responses as this project writes them: RFC 9112, with the fields in one fixed order.
 use Rattle.std.specs.Prelude.{ℕ, ◌==◌, nat_le, ◌&&◌, List, [], ◌++◌, length, codes, decimal, unwrap_or, if◌then◌else◌}
 use Rattle.http.specs.StatusCode.{reason_phrase}
-use Rattle.uss_http_base.specs.declared.request.Request.{Request}
+use Rattle.uss_http_request.specs.declared.request.Request.{Request}
 use Rattle.uss_http_response.specs.declared.response.Response.{Response}
 
 -- method, path, host, client, type, length; and the body
@@ -11,6 +11,10 @@ request_text host request =
     ++ codes "\r\nUSS-Client: " ++ request.client
     ++ codes "\r\nContent-Type: application/json\r\nContent-Length: " ++ decimal (length request.body)
     ++ codes "\r\nConnection: close\r\n\r\n" ++ request.body
+
+-- the response with this status and this body
+abbrev pub response_with : ℕ → List ℕ → Response
+response_with status body = record { status = status; body = body }
 
 -- the canonical phrase of a status of three digits, and none of any other number
 abbrev pub phrase_of : ℕ → List ℕ

@@ -2,13 +2,13 @@ ghost use Rattle.std.specs.Prelude.{◌≡◌, ◌≢◌, ℕ, ◌≤◌, Bool, 
 ghost use Rattle.uss_cause.specs.Cause.{Rose};
 ghost use Rattle.uss_http.specs.Refusals.{IsReadFrom, ButForFaults};
 ghost use Rattle.uss_http.specs.Responses.{IsReadOver};
-ghost use Rattle.uss_http_base.specs.Requests.{ReadsPromptly};
+ghost use Rattle.uss_http_request.specs.Requests.{ReadsPromptly};
 ghost use Rattle.uss_http_response.specs.Dials.{ReceivesPromptly};
 ghost use Rattle.uss_link.specs.Talks.{Talk, Stays};
 
 use crate::refusal::{HttpRefusal, of_dial, of_source};
 use std::alloc::Global;
-use uss_http_base::{Request, request_from};
+use uss_http_request::{Request, request_from};
 use uss_http_response::{Response, response_from};
 use uss_link::{Dial, Source};
 

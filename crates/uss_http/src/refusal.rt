@@ -1,7 +1,7 @@
 ghost use Rattle.std.specs.Prelude.{◌≡◌};
-ghost use Rattle.uss_http.specs.Refusals.{refusal_of, refusal_over, refusal_number};
+ghost use Rattle.uss_http.specs.Refusals.{refusal_of, refusal_over, number_of};
 
-use uss_http_base::{Bytes, ReadRefusal};
+use uss_http_request::{Bytes, ReadRefusal};
 
 /// Why a message was not read, sent or routed. In brackets the number of the refusal.
 #[derive(Debug, Drop)]
@@ -61,20 +61,20 @@ pub(crate) fn of_dial(refusal: ReadRefusal) -> HttpRefusal
 }
 
 impl HttpRefusal {
-    /// The number of the refusal, or 0 for a fault and for want of memory.
-    pub fn number(&self) -> u16
-        ensures { result ≡ refusal_number self.now }
+    /// The number of the refusal; none for a fault and for want of memory.
+    pub fn number(&self) -> Option<u16>
+        ensures { result ≡ number_of self.now }
     {
         match self {
-            HttpRefusal::HeadTooLarge => 431,
-            HttpRefusal::BadHead => 432,
-            HttpRefusal::BodyTooLarge => 433,
-            HttpRefusal::BadChunk => 434,
-            HttpRefusal::Truncated => 435,
-            HttpRefusal::NoRoute => 436,
-            HttpRefusal::WrongMethod { .. } => 437,
-            HttpRefusal::NoClient => 438,
-            HttpRefusal::ReadFault | HttpRefusal::DialFault | HttpRefusal::Memory => 0,
+            HttpRefusal::HeadTooLarge => Some(431),
+            HttpRefusal::BadHead => Some(432),
+            HttpRefusal::BodyTooLarge => Some(433),
+            HttpRefusal::BadChunk => Some(434),
+            HttpRefusal::Truncated => Some(435),
+            HttpRefusal::NoRoute => Some(436),
+            HttpRefusal::WrongMethod { .. } => Some(437),
+            HttpRefusal::NoClient => Some(438),
+            HttpRefusal::ReadFault | HttpRefusal::DialFault | HttpRefusal::Memory => None,
         }
     }
 }

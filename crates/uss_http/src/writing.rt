@@ -3,14 +3,14 @@ ghost use Rattle.arrayvec.specs.ArrayVec.{array_vec_len};
 ghost use Rattle.uss_cause.specs.Cause.{Counts, Rose};
 ghost use Rattle.uss_link.specs.Bytes.{TookFront};
 ghost use Rattle.uss_link.specs.Talks.{Talk, SentFront, Stays};
-ghost use Rattle.uss_http.specs.Writing.{request_text, phrase_of, status_text, body_text, response_text};
+ghost use Rattle.uss_http.specs.Writing.{request_text, response_with, phrase_of, status_text, body_text, response_text};
 
 use crate::refusal::HttpRefusal;
 use arrayvec::ArrayVec;
 use http::StatusCode;
 use itoa::Buffer;
 use std::alloc::{AllocError, Global};
-use uss_http_base::Request;
+use uss_http_request::Request;
 use uss_http_response::Response;
 use uss_link::{Dial, DialFault, Sink, WriteFault, send_all, write_all};
 
@@ -142,27 +142,23 @@ fn add_fields(head: &mut HeadBytes, count: usize)
 }
 
 /// The bytes of a response, up to its body.
-fn response_head(response: &Response) -> HeadBytes
-    ensures { result.items ++ body_text response.now ≡ response_text response.now }
+fn response_head(status: u16, body: &[u8]) -> HeadBytes
+    ensures { result.items ++ body_text (response_with status body.now) ≡ response_text (response_with status body.now) }
 {
-    let mut head = status_line(response.status);
-    if response.status == 204 {
+    let mut head = status_line(status);
+    if status == 204 {
         add(&mut head, END_OF_FIELDS);
     } else {
-        add_fields(&mut head, response.body.len());
+        add_fields(&mut head, body.len());
     }
     head
 }
 
 /// The body of a response, as it is sent.
-fn sent_body(response: &Response) -> &[u8]
-    ensures { result.now ≡ body_text response.now }
+fn sent_body(status: u16, body: &[u8]) -> &[u8]
+    ensures { result.now ≡ body_text (response_with status body.now) }
 {
-    if response.status == 204 {
-        b""
-    } else {
-        response.body.as_slice()
-    }
+    if status == 204 { b"" } else { body }
 }
 
 /// Writes two pieces one after the other. On a fault a front of them was written.
@@ -178,12 +174,26 @@ fn write_both<K: Sink>(output: &mut K, first: &[u8], second: &[u8]) -> Result<()
     write_all(output, second)
 }
 
+/// Writes a response whose body is lent, as one whose text is in the program: so it can be answered that memory is out. Takes
+/// no memory. On a fault a front of its bytes was written.
+pub fn write_lent_response<K: Sink>(
+    output: &mut K,
+    status: u16,
+    body: &[u8],
+) -> Result<(), WriteFault>
+    ensures counts { Counts (K.faults output.old) (K.faults output.new) result }
+    ensures written { (taken : List ℕ) → K.taken output.old ≡ Some taken → OnOk result (K.taken output.new ≡ Some (taken ++ response_text (response_with status body.now))) }
+    ensures front { (taken : List ℕ) → K.taken output.old ≡ Some taken → OnErr result (TookFront taken (K.taken output.new) (response_text (response_with status body.now))) }
+{
+    let head = response_head(status, body);
+    write_both(output, head.as_slice(), sent_body(status, body))
+}
+
 /// Writes a response. Takes no memory. On a fault a front of its bytes was written.
 pub fn write_response<K: Sink>(output: &mut K, response: &Response) -> Result<(), WriteFault>
     ensures counts { Counts (K.faults output.old) (K.faults output.new) result }
     ensures written { (taken : List ℕ) → K.taken output.old ≡ Some taken → OnOk result (K.taken output.new ≡ Some (taken ++ response_text response.now)) }
     ensures front { (taken : List ℕ) → K.taken output.old ≡ Some taken → OnErr result (TookFront taken (K.taken output.new) (response_text response.now)) }
 {
-    let head = response_head(response);
-    write_both(output, head.as_slice(), sent_body(response))
+    write_lent_response(output, response.status, response.body.as_slice())
 }

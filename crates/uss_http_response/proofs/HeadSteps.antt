@@ -6,15 +6,15 @@ use Rattle.httparse.specs.Grammar.{ResponseHead, print_response, status_code, Ne
 use Rattle.httparse.specs.declared.spans.HeaderSpan.{HeaderSpan}
 use Rattle.httparse.specs.declared.spans.ResponseSpans.{ResponseSpans}
 use Rattle.httparse.specs.Spans.{IsResponseAt, header_bytes, name_and_value}
-use Rattle.uss_http_base.specs.declared.halt.Halt.{Halt}
-use Rattle.uss_http_base.specs.declared.halt.Halt.TheVariants as halt
-use Rattle.uss_http_base.specs.declared.refusal.ReadRefusal.{ReadRefusal}
-use Rattle.uss_http_base.specs.declared.refusal.ReadRefusal.TheVariants as refusal
-use Rattle.uss_http_base.specs.Pieces.{piece_limit}
-use Rattle.uss_http_base.specs.Fields.{framing_of}
-use Rattle.uss_http_base.specs.HeadAnswers.{refusal_of_head}
-use Rattle.uss_http_base.specs.Streams.{Passes, UnlessOutside}
-use Rattle.uss_http_base.proofs.HeadSteps.{short_front, behind}
+use Rattle.uss_http_request.specs.declared.halt.Halt.{Halt}
+use Rattle.uss_http_request.specs.declared.halt.Halt.TheVariants as halt
+use Rattle.uss_http_request.specs.declared.refusal.ReadRefusal.{ReadRefusal}
+use Rattle.uss_http_request.specs.declared.refusal.ReadRefusal.TheVariants as refusal
+use Rattle.uss_http_request.specs.Pieces.{piece_limit}
+use Rattle.uss_http_request.specs.Fields.{framing_of}
+use Rattle.uss_http_request.specs.HeadAnswers.{refusal_of_head}
+use Rattle.uss_http_request.specs.Streams.{Passes, UnlessOutside}
+use Rattle.uss_http_request.proofs.HeadSteps.{short_front, behind}
 use Rattle.uss_http_response.specs.declared.heads.StatusHead.{StatusHead}
 use Rattle.uss_http_response.specs.Heads.{BeginsWith, IsOpenHead}
 use Rattle.uss_http_response.specs.Answers.{IsHeadAt, MissesHead}

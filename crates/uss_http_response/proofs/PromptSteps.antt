@@ -3,17 +3,17 @@ use Rattle.std.proofs.Common.{◌≡◌, ℕ, ◌≤◌, Bool, List, [], ◌++�
 use Rattle.std.specs.Prelude.{Result}
 use Rattle.httparse.specs.Grammar.{print_response}
 use Rattle.uss_link.specs.Talks.{Talk}
-use Rattle.uss_http_base.specs.declared.refusal.ReadRefusal.{ReadRefusal}
-use Rattle.uss_http_base.specs.declared.refusal.ReadRefusal.TheVariants as refusal
-use Rattle.uss_http_base.specs.Fields.{body_limit}
-use Rattle.uss_http_base.specs.Streams.{Passes, Adds}
-use Rattle.uss_http_base.specs.Dials.{HeardFrom}
-use Rattle.uss_http_base.specs.NothingHeard.{heard_nothing}
-use Rattle.uss_http_base.specs.Prompt.{call_limit, IsPrompt, stays, soon, ButForFaults}
-use Rattle.uss_http_base.proofs.Passing.{passes_then}
-use Rattle.uss_http_base.proofs.Prompting.{prompt_map, prompt_then, refused_map}
-use Rattle.uss_http_base.specs.declared.fields.Framing.{Framing}
-use Rattle.uss_http_base.specs.Bodies.{IsRefusedBody}
+use Rattle.uss_http_request.specs.declared.refusal.ReadRefusal.{ReadRefusal}
+use Rattle.uss_http_request.specs.declared.refusal.ReadRefusal.TheVariants as refusal
+use Rattle.uss_http_request.specs.Fields.{body_limit}
+use Rattle.uss_http_request.specs.Streams.{Passes, Adds}
+use Rattle.uss_http_request.specs.Dials.{HeardFrom}
+use Rattle.uss_http_request.specs.NothingHeard.{heard_nothing}
+use Rattle.uss_http_request.specs.Prompt.{call_limit, IsPrompt, stays, soon, ButForFaults}
+use Rattle.uss_http_request.proofs.Passing.{passes_then}
+use Rattle.uss_http_request.proofs.Prompting.{prompt_map, prompt_then, refused_map}
+use Rattle.uss_http_request.specs.declared.fields.Framing.{Framing}
+use Rattle.uss_http_request.specs.Bodies.{IsRefusedBody}
 use Rattle.uss_http_response.specs.declared.heads.BodyEnd.{BodyEnd}
 use Rattle.uss_http_response.specs.declared.heads.BodyEnd.TheVariants.{Framed}
 use Rattle.uss_http_response.specs.declared.heads.StatusHead.{StatusHead}

@@ -4,17 +4,17 @@ use Rattle.std.specs.Prelude.{Result, OnOk, IsTrue}
 use Rattle.std.proofs.lemmas.Grind.{common_steps}
 use Rattle.std.proofs.lemmas.List.{take-append-le}
 use Rattle.httparse.specs.Grammar.{ResponseHead, print_response, NeverHasResponse}
-use Rattle.uss_http_base.specs.declared.fields.Framing.{Framing}
-use Rattle.uss_http_base.specs.declared.fields.Framing.TheVariants.{Nothing, Length, Chunked}
-use Rattle.uss_http_base.specs.declared.refusal.ReadRefusal.{ReadRefusal}
-use Rattle.uss_http_base.specs.declared.refusal.ReadRefusal.TheVariants as refusal
-use Rattle.uss_http_base.specs.Pieces.{piece_limit}
-use Rattle.uss_http_base.specs.Streams.{Hears, Passes}
-use Rattle.uss_http_base.specs.Bodies.{IsRefusedBody, ShowsNoBody}
-use Rattle.uss_http_base.proofs.Passing.{passes_then, passes_behind}
-use Rattle.uss_http_base.proofs.Lifting.{front_more, body_more, body_refusal_more}
+use Rattle.uss_http_request.specs.declared.fields.Framing.{Framing}
+use Rattle.uss_http_request.specs.declared.fields.Framing.TheVariants.{Nothing, Length, Chunked}
+use Rattle.uss_http_request.specs.declared.refusal.ReadRefusal.{ReadRefusal}
+use Rattle.uss_http_request.specs.declared.refusal.ReadRefusal.TheVariants as refusal
+use Rattle.uss_http_request.specs.Pieces.{piece_limit}
+use Rattle.uss_http_request.specs.Streams.{Hears, Passes}
+use Rattle.uss_http_request.specs.Bodies.{IsRefusedBody, ShowsNoBody}
+use Rattle.uss_http_request.proofs.Passing.{passes_then, passes_behind}
+use Rattle.uss_http_request.proofs.Lifting.{front_more, body_more, body_refusal_more}
 use Rattle.uss_link.specs.Talks.{Talk}
-use Rattle.uss_http_base.specs.Dials.{heard, HeardFrom, IsOver}
+use Rattle.uss_http_request.specs.Dials.{heard, HeardFrom, IsOver}
 use Rattle.uss_http_response.specs.Dials.{IsReceived}
 use Rattle.uss_http_response.specs.declared.heads.BodyEnd.{BodyEnd}
 use Rattle.uss_http_response.specs.declared.heads.BodyEnd.TheVariants.{Framed, AtTheEnd}

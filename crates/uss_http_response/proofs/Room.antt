@@ -2,7 +2,7 @@
 use Rattle.std.proofs.Common.{ℕ, ◌*◌, ◌≤◌, List, [], ◌∷◌, length, ap, arith, length-append}
 use Rattle.httparse.specs.Grammar.{ResponseHead, IsResponseHead, print_response}
 use Rattle.httparse.specs.Spans.{ResponseExceeds}
-use Rattle.uss_http_base.proofs.Room.{fields_long}
+use Rattle.uss_http_request.proofs.Room.{fields_long}
 
 response_long : (h : ResponseHead) → IsResponseHead h → 3 * length h.fields ≤ length (print_response h)
 unfolding print_response

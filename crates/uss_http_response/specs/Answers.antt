@@ -1,10 +1,10 @@
 -- What reading a response from a stream answers, step by step. This project's own.
 use Rattle.std.specs.Prelude.{◌≡◌, ℕ, ◌<◌, ◌≤◌, List, [], ◌++◌, length, None, Result, Ok, Err}
-use Rattle.uss_http_base.specs.declared.refusal.ReadRefusal.{ReadRefusal}
-use Rattle.uss_http_base.specs.declared.refusal.ReadRefusal.TheVariants as refusal
-use Rattle.uss_http_base.specs.Fields.{body_limit, framing_of}
-use Rattle.uss_http_base.specs.Streams.{Passes}
-use Rattle.uss_http_base.specs.Bodies.{TakesBody, MissesBody}
+use Rattle.uss_http_request.specs.declared.refusal.ReadRefusal.{ReadRefusal}
+use Rattle.uss_http_request.specs.declared.refusal.ReadRefusal.TheVariants as refusal
+use Rattle.uss_http_request.specs.Fields.{body_limit, framing_of}
+use Rattle.uss_http_request.specs.Streams.{Passes}
+use Rattle.uss_http_request.specs.Bodies.{TakesBody, MissesBody}
 use Rattle.uss_http_response.specs.declared.heads.BodyEnd.{BodyEnd}
 use Rattle.uss_http_response.specs.declared.heads.BodyEnd.TheVariants.{Framed, AtTheEnd}
 use Rattle.uss_http_response.specs.declared.heads.StatusHead.{StatusHead}

@@ -1,8 +1,8 @@
 -- What reading a response from a dial answers. This project's own.
 use Rattle.std.specs.Prelude.{◌≡◌, ℕ, Bool, List, [], ◌++◌, ◌⊎◌, Option, Some, Result, IsTrue}
-use Rattle.uss_http_base.specs.declared.refusal.ReadRefusal.{ReadRefusal}
-use Rattle.uss_http_base.specs.Dials.{heard, is_over}
-use Rattle.uss_http_base.specs.Prompt.{AreFew}
+use Rattle.uss_http_request.specs.declared.refusal.ReadRefusal.{ReadRefusal}
+use Rattle.uss_http_request.specs.Dials.{heard, is_over}
+use Rattle.uss_http_request.specs.Prompt.{AreFew}
 use Rattle.uss_link.specs.Talks.{Talk}
 use Rattle.uss_http_response.specs.declared.response.Response.{Response}
 use Rattle.uss_http_response.specs.Responses.{IsAnswerOf, IsOpen}

@@ -2,12 +2,12 @@
 use Rattle.std.specs.Prelude.{◌≡◌, ℕ, ◌≤◌, ◌<◌, ◌==◌, ◌⊎◌, List, ◌++◌, length, take, map, Some, None, option_map, if◌then◌else◌}
 use Rattle.httparse.specs.Grammar.{ResponseHead, IsResponseHead, print_response, status_code, HasNoResponse, NeverHasResponse, MayBecomeResponse}
 use Rattle.httparse.specs.Spans.{name_and_value}
-use Rattle.uss_http_base.specs.declared.fields.Framing.{Framing}
-use Rattle.uss_http_base.specs.declared.fields.Framing.TheVariants.{Nothing, Length, Chunked}
-use Rattle.uss_http_base.specs.declared.refusal.ReadRefusal.{ReadRefusal}
-use Rattle.uss_http_base.specs.declared.refusal.ReadRefusal.TheVariants as refusal
-use Rattle.uss_http_base.specs.Pieces.{piece_limit}
-use Rattle.uss_http_base.specs.Fields.{framing_of}
+use Rattle.uss_http_request.specs.declared.fields.Framing.{Framing}
+use Rattle.uss_http_request.specs.declared.fields.Framing.TheVariants.{Nothing, Length, Chunked}
+use Rattle.uss_http_request.specs.declared.refusal.ReadRefusal.{ReadRefusal}
+use Rattle.uss_http_request.specs.declared.refusal.ReadRefusal.TheVariants as refusal
+use Rattle.uss_http_request.specs.Pieces.{piece_limit}
+use Rattle.uss_http_request.specs.Fields.{framing_of}
 use Rattle.uss_http_response.specs.declared.heads.BodyEnd.{BodyEnd}
 use Rattle.uss_http_response.specs.declared.heads.BodyEnd.TheVariants.{Framed, AtTheEnd}
 use Rattle.uss_http_response.specs.declared.heads.StatusHead.{StatusHead}

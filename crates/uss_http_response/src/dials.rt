@@ -1,12 +1,12 @@
 ghost use Rattle.std.specs.Prelude.{◌≡◌, ◌≢◌, ◌≤◌, Bool, IsTrue, List, Some, Err, OnOk};
 ghost use Rattle.uss_cause.specs.Cause.{Rose};
-ghost use Rattle.uss_http_base.specs.Prompt.{ButForFaults};
+ghost use Rattle.uss_http_request.specs.Prompt.{ButForFaults};
 ghost use Rattle.uss_link.specs.Talks.{Talk, Stays};
 ghost use Rattle.uss_http_response.specs.Dials.{IsReceived, ReceivesPromptly};
 
 use crate::response::{Response, take_response};
 use std::alloc::Global;
-use uss_http_base::ReadRefusal;
+use uss_http_request::ReadRefusal;
 use uss_link::Dial;
 
 /// Reads one response over the open stream of a dial, of which nothing was received before. Where the dial tells what was

@@ -2,10 +2,10 @@ ghost use Rattle.std.specs.Prelude.{◌≡◌, ◌≢◌, ◌≤◌, ◌<◌, Li
 ghost use Rattle.httparse.specs.Grammar.{NeverHasResponse};
 ghost use Rattle.httparse.specs.Spans.{IsResponseOf, IsResponseWithin, IsHeaderWithin, header_bytes};
 ghost use Rattle.uss_cause.specs.Cause.{Rose};
-ghost use Rattle.uss_http_base.specs.Fields.{framing_of};
-ghost use Rattle.uss_http_base.specs.Pieces.{MatchLook, piece_limit};
-ghost use Rattle.uss_http_base.specs.Prompt.{IsPrompt, ButForFaults};
-ghost use Rattle.uss_http_base.specs.Streams.{Hears};
+ghost use Rattle.uss_http_request.specs.Fields.{framing_of};
+ghost use Rattle.uss_http_request.specs.Pieces.{MatchLook, piece_limit};
+ghost use Rattle.uss_http_request.specs.Prompt.{IsPrompt, ButForFaults};
+ghost use Rattle.uss_http_request.specs.Streams.{Hears};
 ghost use Rattle.uss_http_response.specs.Heads.{IsOpenHead, IsRefusedHead, end_by};
 ghost use Rattle.uss_http_response.specs.Answers.{IsHeadAt, TakesHead, MissesHead};
 
@@ -13,7 +13,7 @@ use httparse::spans::{HeaderSpan, ResponseSpans, parse_response};
 use httparse::{Error, Status};
 use std::alloc::{AllocError, Global};
 use std::marker::Model;
-use uss_http_base::{
+use uss_http_request::{
     Framing, Intake, Look, Piece, ReadRefusal, Stream, body_framing, fields_may_end, head_refusal,
     make_all, places, take_piece,
 };
@@ -93,7 +93,7 @@ fn look_for_head(bytes: &[u8], headers: &mut [HeaderSpan]) -> Option<Look<Respon
 }
 
 /// Where the body of a response ends.
-#[derive(Clone, Copy, Debug, PartialEq, Eq)]
+#[derive(Clone, Copy)]
 pub enum BodyEnd {
     /// Where its framing says.
     Framed(Framing),
@@ -102,7 +102,7 @@ pub enum BodyEnd {
 }
 
 /// The status of a response, and where its body ends.
-#[derive(Clone, Copy, Debug, PartialEq, Eq)]
+#[derive(Clone, Copy)]
 pub struct StatusHead {
     /// The status, as 200.
     pub status: u16,
@@ -141,7 +141,7 @@ fn head_at(bytes: &[u8], headers: &[HeaderSpan], status: u16) -> Result<StatusHe
 }
 
 /// Takes a head from the stream.
-#[tactic(auto, using(uss_http_base::proofs::Passing::hears_then, uss_http_base::proofs::Passing::hears_same))]
+#[tactic(auto, using(uss_http_request::proofs::Passing::hears_then, uss_http_request::proofs::Passing::hears_same))]
 pub fn take_status_head<K, T: Stream<K>>(
     stream: &mut T,
     intake: &mut Intake,

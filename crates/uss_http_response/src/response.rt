@@ -1,14 +1,14 @@
 ghost use Rattle.std.specs.Prelude.{◌≡◌, ◌≢◌, ◌≤◌, [], Err, IfOk, IfErr};
 ghost use Rattle.uss_cause.specs.Cause.{Rose};
-ghost use Rattle.uss_http_base.specs.Prompt.{IsPrompt, ButForFaults};
-ghost use Rattle.uss_http_base.specs.Streams.{Hears};
+ghost use Rattle.uss_http_request.specs.Prompt.{IsPrompt, ButForFaults};
+ghost use Rattle.uss_http_request.specs.Streams.{Hears};
 ghost use Rattle.uss_http_response.specs.Responses.{IsOpen, IsOpenBodyAt};
 ghost use Rattle.uss_http_response.specs.Answers.{ShowsAnswer, TakesBodyAt, MissesBodyAt};
 
 use crate::heads::{BodyEnd, ResponseHeads, take_status_head};
 use crate::rest::take_rest;
 use std::alloc::{AllocError, Global};
-use uss_http_base::{Bytes, Intake, ReadRefusal, Stream, take_body};
+use uss_http_request::{Bytes, Intake, ReadRefusal, Stream, take_body};
 
 /// A response: its status and its body.
 #[derive(Debug, Drop)]
@@ -42,7 +42,7 @@ fn take_body_at<K, T: Stream<K>>(
 
 /// Takes one response from a stream of which nothing was read before. Bytes behind it may have been taken too: a
 /// connection carries one response.
-#[tactic(auto, using(uss_http_base::proofs::Passing::hears_then, uss_http_base::proofs::Passing::hears_same))]
+#[tactic(auto, using(uss_http_request::proofs::Passing::hears_then, uss_http_request::proofs::Passing::hears_same))]
 pub fn take_response<K, T: Stream<K>>(
     alloc: Global,
     stream: &mut T,
@@ -65,6 +65,8 @@ pub fn take_response<K, T: Stream<K>>(
         Ok(head) => head,
         Err(refusal) => return Err(refusal),
     };
+    // a body in chunks takes such places anew, for its trailers
+    drop(heads);
     let body = match take_body_at(alloc, stream, &mut intake, head.body) {
         Ok(body) => body,
         Err(refusal) => return Err(refusal),

@@ -1,15 +1,15 @@
 ghost use Rattle.std.specs.Prelude.{◌≡◌, ◌≢◌, ◌≤◌, length, Err, IfOk, IfErr};
 ghost use Rattle.uss_cause.specs.Cause.{Rose};
-ghost use Rattle.uss_http_base.specs.Fields.{body_limit};
-ghost use Rattle.uss_http_base.specs.Prompt.{IsPrompt, ButForFaults};
-ghost use Rattle.uss_http_base.specs.Streams.{Hears};
+ghost use Rattle.uss_http_request.specs.Fields.{body_limit};
+ghost use Rattle.uss_http_request.specs.Prompt.{IsPrompt, ButForFaults};
+ghost use Rattle.uss_http_request.specs.Streams.{Hears};
 ghost use Rattle.uss_http_response.specs.Answers.{TakesRest, MissesRest};
 
 use std::alloc::{AllocError, Global};
-use uss_http_base::{BODY_LIMIT, Intake, PIECE_LIMIT, ReadRefusal, Stream, piece_refusal};
+use uss_http_request::{BODY_LIMIT, Intake, PIECE_LIMIT, ReadRefusal, Stream, piece_refusal};
 
 /// Takes all the bytes up to the end of the stream: those not yet used, and then the next ones.
-#[tactic(auto, using(uss_http_base::proofs::Passing::hears_then, uss_http_base::proofs::Passing::hears_same, uss_http_base::proofs::Prompting::prompt_same))]
+#[tactic(auto, using(uss_http_request::proofs::Passing::hears_then, uss_http_request::proofs::Passing::hears_same, uss_http_request::proofs::Prompting::prompt_same))]
 pub fn take_rest<K, T: Stream<K>>(
     alloc: Global,
     stream: &mut T,

@@ -6,3 +6,4 @@ pub mod States
 pub mod Refusals
 pub mod Same
 pub mod SameLaws
+pub mod Limits

@@ -6,7 +6,7 @@ use Rattle.std.proofs.lemmas.Bool.Decides.{nat_tests}
 use Rattle.std.proofs.lemmas.List.Folds.{find-append}
 use Rattle.std.proofs.lemmas.List.Elements.{filter-append}
 use Rattle.uss_event.specs.Pairs.{OperationalIntent}
-use Rattle.uss_law_duty.specs.Heard.{is_of, without}
+use Rattle.uss_event.specs.Heard.{is_of, without}
 use Rattle.uss_key.specs.Kept.{may_be_kept}
 use Rattle.uss_key.proofs.Lists.{any_is_found, without_absent, last_alone, same_flight}
 use Rattle.uss_key.proofs.Numbers.{none_from_no_some}

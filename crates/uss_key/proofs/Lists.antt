@@ -4,7 +4,7 @@ use Rattle.std.specs.List.{list_any}
 use Rattle.std.proofs.lemmas.Bool.Decides.{nat_tests}
 use Rattle.std.proofs.lemmas.List.Folds.{list_any-append}
 use Rattle.uss_event.specs.Pairs.{OperationalIntent}
-use Rattle.uss_law_duty.specs.Heard.{is_of, without}
+use Rattle.uss_event.specs.Heard.{is_of, without}
 use Rattle.uss_key.specs.Kept.{are_of_different_flights}
 
 any_at : {X : Type 0} (p : X → Bool) (x : X) (xs : List X) (b : Bool) → p x ≡ b → list_any p xs ≡ is_some (find p xs) → list_any p (x ∷ xs) ≡ is_some (find p (x ∷ xs))

@@ -6,8 +6,8 @@ use Rattle.std.specs.Option.{option_or}
 use Rattle.std.proofs.lemmas.Bool.Decides.{nat_tests}
 use Rattle.std.proofs.lemmas.List.Folds.{find-append, list_any-append}
 use Rattle.uss_event.specs.Pairs.{OperationalIntent}
-use Rattle.uss_law_duty.specs.Heard.{is_of, without, after_news}
-use Rattle.uss_law_duty.specs.Heard.News.{Heard}
+use Rattle.uss_event.specs.Heard.{is_of, without, after_news}
+use Rattle.uss_event.specs.Heard.News.{Heard}
 use Rattle.uss_key.specs.Kept.{room_for, is_older, forgotten_for}
 use Rattle.uss_key.proofs.Rooms.{heard_new, heard_old, forgotten_of_known}
 use Rattle.uss_key.proofs.Caches.{or_none}

@@ -4,8 +4,8 @@ use Rattle.std.specs.List.{list_any}
 use Rattle.std.specs.Option.{option_map, IfSome}
 use Rattle.std.proofs.lemmas.Bool.Decides.{nat_tests}
 use Rattle.uss_event.specs.Pairs.{OperationalIntent}
-use Rattle.uss_law_duty.specs.Heard.{News, is_of, without, in_place, after_news, kept_from, kept_pairs}
-use Rattle.uss_law_duty.specs.Heard.News.{Heard}
+use Rattle.uss_event.specs.Heard.{News, is_of, without, in_place, after_news, kept_from, kept_pairs}
+use Rattle.uss_event.specs.Heard.News.{Heard}
 use Rattle.uss_key.specs.Kept.{room_for, is_older, are_of_different_flights, may_be_kept, forgotten_for}
 use Rattle.uss_key.proofs.Lists.{any_is_found, without_absent, first_alone, one_more_flight, still_apart, none_left, one_less}
 use Rattle.uss_key.proofs.Numbers.{none_from_no_some}

@@ -7,7 +7,7 @@ use Rattle.std.specs.BTreeMap.{BTreeMap, is_at, insert_entry}
 use Rattle.std.specs.Map.{values_of, remove_entry}
 use Rattle.std.proofs.lemmas.Bool.Decides.{nat_tests}
 use Rattle.uss_event.specs.Pairs.{OperationalIntent}
-use Rattle.uss_law_duty.specs.Heard.{is_of, without}
+use Rattle.uss_event.specs.Heard.{is_of, without}
 use Rattle.uss_key.specs.Kept.{are_of_different_flights, may_be_kept}
 use Rattle.uss_key.specs.Store.{number_of, are_numbered, IsStore}
 use Rattle.uss_key.proofs.Lists.{without_absent, first_alone, one_more_flight, still_apart, no_longer, any_is_found}

@@ -3,7 +3,7 @@
 use Rattle.std.specs.Prelude.{ℕ, Bool, true, false, not, ◌&&◌, nat_le, nat_lt, List, [], ◌∷◌, length, Option, Some, None, if◌then◌else◌}
 use Rattle.std.specs.List.{list_any}
 use Rattle.uss_event.specs.Pairs.{OperationalIntent}
-use Rattle.uss_law_duty.specs.Heard.{most_kept, is_of, without, with_room}
+use Rattle.uss_event.specs.Heard.{most_kept, is_of, without, with_room}
 
 -- the kept pairs, the one that was heard longest ago first, and for how many more there is room without further memory
 pub record Kept : Type 0 where

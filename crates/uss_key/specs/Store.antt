@@ -5,7 +5,7 @@ use Rattle.std.specs.BTreeMap.{BTreeMap}
 use Rattle.std.specs.Map.{values_of}
 use Rattle.std.specs.Ordering.{nat_cmp}
 use Rattle.uss_event.specs.Pairs.{OperationalIntent}
-use Rattle.uss_law_duty.specs.Heard.{is_of}
+use Rattle.uss_event.specs.Heard.{is_of}
 use Rattle.uss_key.specs.Kept.{may_be_kept}
 
 -- the number of hearing of the flight's pair

@@ -2,15 +2,15 @@ ghost use Rattle.std.specs.Prelude.{◌≡◌, ◌≢◌, ◌≤◌, ◌+◌, �
 ghost use Rattle.std.specs.List.{list_any};
 ghost use Rattle.std.specs.Option.{option_map, option_to_list};
 ghost use Rattle.uss_event.specs.Pairs.{OperationalIntent};
-ghost use Rattle.uss_law_duty.specs.Heard.{News, is_of, without, after_news, kept_pairs};
-ghost use Rattle.uss_law_duty.specs.Heard.News.{Heard, Forgotten};
+ghost use Rattle.uss_event.specs.Heard.{News, is_of, without, after_news, kept_pairs};
+ghost use Rattle.uss_event.specs.Heard.News.{Heard, Forgotten};
 ghost use Rattle.uss_key.specs.Kept.{may_be_kept, room_for, is_older, forgotten_for};
 
 use crate::store::Store;
 use std::alloc::{AllocError, Global};
 use std::marker::Model;
 use uss_event::Pair;
-use uss_intent::FlightId;
+use uss_intent::{FlightId, MOST_REFERENCES};
 
 /// The pairs that a supplier heard and keeps: at most 4,096, one of each flight. A contract sees the list of the kept pairs, the one
 /// heard longest ago first, and the number of pairs that can be heard without further memory.
@@ -142,7 +142,7 @@ impl Cache {
         if is_of(&self.newest, flight) || self.settled.has(flight) {
             return None;
         }
-        if self.settled.len() + count(&self.newest) < 4096 {
+        if self.settled.len() + count(&self.newest) < MOST_REFERENCES {
             return None;
         }
         self.settled.first_flight()

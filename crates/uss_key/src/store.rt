@@ -1,14 +1,15 @@
 ghost use Rattle.std.specs.Prelude.{◌≡◌, ◌<◌, ◌≤◌, ◌++◌, [], ◌∷◌, length, drop, find, slice_get, option_copied, IsTrue, OnOk, OnErr, IfErr, None};
 ghost use Rattle.std.specs.List.{list_any};
 ghost use Rattle.std.specs.Option.{option_map};
-ghost use Rattle.uss_law_duty.specs.Heard.{is_of, without};
+ghost use Rattle.uss_event.specs.Heard.{is_of, without};
 ghost use Rattle.uss_key.specs.Kept.{may_be_kept, room_for};
+ghost use Rattle.uss_intent.specs.Limits.{most_references};
 
 use std::alloc::Global;
 use std::collections::BTreeMap;
 use std::marker::Model;
 use uss_event::Pair;
-use uss_intent::FlightId;
+use uss_intent::{FlightId, MOST_REFERENCES};
 
 /// Pairs by the order in which they were heard, and by flight. A contract sees the list of the pairs, in that order; no two are of one
 /// flight.
@@ -91,7 +92,7 @@ impl Store {
     }
 
     /// Takes the pair that was heard first out, if there is one.
-    pub(crate) fn remove_first(&mut self) -> Option<Pair>
+    fn remove_first(&mut self) -> Option<Pair>
         ensures { self.new ≡ drop 1 self.old }
     {
         match self.pairs.pop_first() {
@@ -112,7 +113,7 @@ impl Store {
             let _ = self.remove(flight);
             return;
         }
-        if self.len() >= 4096 {
+        if self.len() >= MOST_REFERENCES {
             let _ = self.remove_first();
         }
     }
@@ -120,7 +121,7 @@ impl Store {
     /// Puts a pair at the end. For want of memory, and once 2^64 - 1 numbers were given, it is handed back and nothing changes.
     pub(crate) fn push(&mut self, pair: Pair) -> Result<(), Pair>
         requires new { find (is_of pair.reference.flight) self.old ≡ None }
-        requires room { length self.old < 4096 }
+        requires room { length self.old < most_references }
         ensures ok { OnOk result (self.new ≡ self.old ++ pair ∷ []) }
         ensures err { OnErr result (self.new ≡ self.old) }
         ensures back { IfErr result (λ p. p ≡ pair) }

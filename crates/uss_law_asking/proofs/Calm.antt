@@ -21,7 +21,7 @@ use Rattle.uss_law_book.specs.Lists.{Opening}
 use Rattle.uss_law_book.specs.Legal.{IsAfter}
 use Rattle.uss_law_book.specs.Readings.{last_of}
 use Rattle.uss_law_duty.specs.Duties.{clamped}
-use Rattle.uss_law_duty.specs.Heard.{is_of}
+use Rattle.uss_event.specs.Heard.{is_of}
 use Rattle.uss_law_supplier.specs.Turns.{Standing}
 use Rattle.uss_law_supplier.specs.Asks.{first_some, plan_refusal, new_refusal}
 use Rattle.uss_law_supplier.proofs.Asking.{parts_none}

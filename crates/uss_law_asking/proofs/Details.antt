@@ -17,7 +17,7 @@ use Rattle.uss_law_dss.specs.Step.{found_in}
 use Rattle.uss_law_dss.proofs.Lists.{has_filter, has_append, has_right, mapped, find_has, find_none}
 use Rattle.uss_law_dss.proofs.Tests.{same_number, equal_number, both, second_false, not_false}
 use Rattle.uss_law_book.proofs.Finds.{find_found}
-use Rattle.uss_law_duty.specs.Heard.{kept_pairs, kept_pair, is_of}
+use Rattle.uss_event.specs.Heard.{kept_pairs, kept_pair, is_of}
 use Rattle.uss_law_supplier.specs.Values.{Values, Round, round_of}
 use Rattle.uss_law_supplier.specs.Calls.{area_of}
 use Rattle.uss_law_supplier.specs.Turns.{Standing}

@@ -8,8 +8,8 @@ use Rattle.uss_law_dss.specs.Orderly.{IsOrderly}
 use Rattle.uss_law_dss.proofs.Tests.{some_same}
 use Rattle.uss_law_dss.proofs.EachOrderly.{empty_orderly, after_orderly}
 use Rattle.uss_law_book.proofs.EachOrderly.{legal_beginning}
-use Rattle.uss_law_duty.specs.Heard.{kept_pair}
-use Rattle.uss_law_duty.specs.Heard.News.{Heard}
+use Rattle.uss_event.specs.Heard.{kept_pair}
+use Rattle.uss_event.specs.Heard.News.{Heard}
 use Rattle.uss_law_supplier.specs.Typed.{IsIntent, IsHeard}
 use Rattle.uss_law_duty.specs.Worked.{owner, now, volume, ask, new_book, held_book, held_pair, end_ask, end_opened, end_done, ticket_put, the_reference}
 use Rattle.uss_law_duty.proofs.Books.{ended_is_legal}

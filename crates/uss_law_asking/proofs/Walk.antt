@@ -45,7 +45,7 @@ use Rattle.uss_event.specs.declared.calls.PeerCall.{PeerCall}
 use Rattle.uss_event.specs.declared.calls.PeerCall.TheVariants as Calls
 use Rattle.uss_event.specs.declared.calls.PeerReply.{PeerReply}
 use Rattle.uss_event.specs.declared.calls.PeerReply.TheVariants as Peers
-use Rattle.uss_law_duty.specs.Heard.News.{Heard}
+use Rattle.uss_event.specs.Heard.News.{Heard}
 use Rattle.uss_law_supplier.specs.declared.duties.Awaited.TheVariants as Waits
 use Rattle.uss_law_supplier.specs.Airspace.{is_left}
 

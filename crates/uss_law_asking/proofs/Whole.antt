@@ -27,8 +27,8 @@ use Rattle.uss_law_dss.specs.Service.{Service, shown_to}
 use Rattle.uss_law_dss.proofs.Lists.{has_left, has_last, has_push, has_map, find_has, length-map}
 use Rattle.uss_law_dss.proofs.Tests.{equal_number, same_number, and_true, both, not_true, not_both, not_less, left_true, right_true, less_is}
 use Rattle.uss_law_book.specs.Lists.{Opening}
-use Rattle.uss_law_duty.specs.Heard.{kept_pairs, kept_pair}
-use Rattle.uss_law_duty.specs.Heard.News.{Heard}
+use Rattle.uss_event.specs.Heard.{kept_pairs, kept_pair}
+use Rattle.uss_event.specs.Heard.News.{Heard}
 use Rattle.uss_law_duty.specs.Answers.{flight_of}
 use Rattle.uss_law_duty.specs.Sayings.{others}
 use Rattle.uss_law_supplier.specs.Values.{Values, Round, awaiting, in_round, round_with, asking_for, round_of, hearing, progress_of, with_progress}

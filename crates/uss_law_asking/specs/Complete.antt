@@ -1,6 +1,7 @@
 -- What a new request comes to where nobody disturbs it: the discovery service replies by its rules and nobody else moves it, other suppliers
 -- serve what is recorded, and no call fails. The choice is then the best one against what is recorded. This project's own.
 use Rattle.std.specs.Prelude.{ℕ, ◌+◌, ◌<◌, ◌≤◌, ◌≡◌, ℤ, Bool, true, false, not, ◌&&◌, ◌==◌, nat_lt, List, [], ◌∷◌, length, filter, filter_map, find, slice_get, Option, Some, None, IfSome, is_none, if◌then◌else◌}
+use Rattle.uss_intent.specs.Limits.{most_references, most_tickets, last_version, most_landings}
 use Rattle.uss_intent.specs.Identifiers.{flight_number, ticket_number}
 use Rattle.uss_intent.specs.Same.{same_text}
 use Rattle.uss_intent.specs.declared.records.Recorded.{Recorded}
@@ -30,7 +31,7 @@ use Rattle.uss_law_book.specs.Lists.{openings}
 use Rattle.uss_law_book.specs.Readings.{last_of}
 use Rattle.uss_law_book.specs.Attempts.{held}
 use Rattle.uss_law_book.specs.Legal.{IsAfter}
-use Rattle.uss_law_duty.specs.Heard.{kept_pair, is_of}
+use Rattle.uss_event.specs.Heard.{kept_pair, is_of}
 use Rattle.uss_law_duty.specs.Sayings.{most_looked_at}
 use Rattle.uss_law_supplier.specs.Calls.{area_of}
 use Rattle.uss_law_supplier.specs.Turns.{Standing}
@@ -89,10 +90,10 @@ pub record IsUndisturbed (s : Standing) (moment : ℤ) (ask : FlightAsk) (servic
   pub own : IfSome (recorded_of (its_flight s ask) service) (λ r. r.reference.manager ≡ s.owner.name)
   -- the service's state is orderly, as each is that it comes to, and it has room
   pub orderly : IsOrderly service
-  pub few_references : length service.references < 4096
-  pub few_tickets : length service.tickets < 8192
-  pub few_versions : (r : Recorded) → Has service.references r → r.reference.version < 4294967295
-  pub few_landings : length service.landings < 9999999999999999
+  pub few_references : length service.references < most_references
+  pub few_tickets : length service.tickets < most_tickets
+  pub few_versions : (r : Recorded) → Has service.references r → r.reference.version < last_version
+  pub few_landings : length service.landings < most_landings
   -- each recorded reference of the supplier is that of what it holds, and what it holds of the flight is recorded
   pub held_own : (r : Recorded) → Has service.references r → is_own s.owner r.reference ≡ true → (p : OperationalIntent) × (held_as s.owner r.reference.flight s.book ≡ Some p) × (p.reference ≡ r.reference)
   pub recorded : HeldIsRecorded s ask service

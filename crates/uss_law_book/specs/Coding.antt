@@ -4,6 +4,7 @@
 -- with their number in one byte, and a table of rules with 2 bytes for each priority. All of this is this project's own.
 use Rattle.std.specs.Prelude.{ℕ, ◌+◌, ◌*◌, ◌^◌, ◌<◌, ◌≤◌, List, length, sum_by, All, Option, Some, None, IfSome}
 use Rattle.uss_vol4.specs.Volume.{Volume4D, IsVolume, InTime}
+use Rattle.uss_intent.specs.Limits.{most_ovns, most_references, most_tickets}
 use Rattle.uss_intent.specs.Texts.{IsName, IsOvn, IsBase}
 use Rattle.uss_intent.specs.declared.records.Subscriber.{Subscriber}
 use Rattle.uss_event.specs.Rules.{IsTable}
@@ -57,7 +58,7 @@ pub record IsSubscriber (s : Subscriber) : Type 0 where
 
 -- at most 8,192 subscribers
 abbrev pub AreOwed : List Subscriber → Type 0
-AreOwed owed = (length owed ≤ 8192) × All IsSubscriber owed
+AreOwed owed = (length owed ≤ most_tickets) × All IsSubscriber owed
 
 -- a rule that refuses
 abbrev pub IsRule : Verdict → Type 0
@@ -68,7 +69,7 @@ IsRule HigherStands = Unit {0}
 -- at most 4,096 missing flights
 abbrev pub IsEnding : Ending → Type 0
 IsEnding (Conflict flight manager rule) = (flight < 2 ^ 128) × IsName manager × IsRule rule
-IsEnding (Stale missing) = (length missing ≤ 4096) × All (λ flight. flight < 2 ^ 128) missing
+IsEnding (Stale missing) = (length missing ≤ most_references) × All (λ flight. flight < 2 ^ 128) missing
 IsEnding Cancelled = Unit {0}
 IsEnding (Ended owed) = AreOwed owed
 
@@ -82,7 +83,7 @@ pub record IsPending (job tag alternative : ℕ) (previous : Option (List ℕ)) 
   pub tag_fits : tag < 2 ^ 64
   pub alternative_fits : alternative < 2 ^ 8
   pub valid_previous : IfSome previous IsOvn
-  pub few : length key ≤ 1024
+  pub few : length key ≤ most_ovns
   pub valid_key : All IsOvn key
 
 pub record IsHolding (job tag : ℕ) (ovn : List ℕ) (version : ℕ) (owed : List Subscriber) : Type 0 where

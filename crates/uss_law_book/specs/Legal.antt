@@ -1,5 +1,6 @@
 -- What a legal book is, entry by entry. This project's own.
 use Rattle.std.specs.Prelude.{ℕ, ◌+◌, ◌<◌, ◌≤◌, ◌≡◌, ◌⊎◌, Bool, true, false, List, [], ◌∷◌, ◌++◌, length, Option, Some, None, IfSome, All, IsTrue, is_some}
+use Rattle.uss_intent.specs.Limits.{most_ovns}
 use Rattle.uss_intent.specs.declared.records.State.{State}
 use Rattle.uss_intent.specs.States.{is_strategic}
 use Rattle.uss_event.specs.Plans.{is_plan}
@@ -87,7 +88,7 @@ pub record MayTry (before : List Entry) (job tag alternative : ℕ) (previous : 
   pub next : tag ≡ length (trials before) + 1
   pub one_of : alternative < length proposals
   pub base : previous ≡ base_of opening.ask.flight before
-  pub few : length key ≤ 1024
+  pub few : length key ≤ most_ovns
   pub blind : IsBlind (is_strategic to) alternative key
 
 -- an open job records one of its attempts

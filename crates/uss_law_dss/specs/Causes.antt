@@ -4,6 +4,7 @@ use Rattle.std.specs.Prelude.{ℕ, ◌<◌, ◌≤◌, ◌≡◌, ◌≢◌, ◌
 use Rattle.uss_vol4.specs.declared.Box4.{Box4}
 use Rattle.uss_vol4.specs.Volume.{Volume4D, ListsShare}
 use Rattle.uss_vol4.specs.Bounding.{bounding_box, box_of}
+use Rattle.uss_intent.specs.Limits.{most_ovns, most_extents, most_vertices, most_references, most_tickets, last_version, most_landings}
 use Rattle.uss_intent.specs.declared.records.Recorded.{Recorded}
 use Rattle.uss_intent.specs.declared.records.Ticket.{Ticket}
 use Rattle.uss_intent.specs.declared.records.State.{State}
@@ -48,9 +49,9 @@ pub record IsMissing (flight : ℕ) (extents : List Volume4D) (key : List (List 
 -- a limit that a Put meets: of references at a creation, of versions at a change, and of landings
 abbrev pub MeetsLimit : Service → ℕ → Option (List ℕ) → ℕ → Type 0
 MeetsLimit s flight ovn limit =
-    ((limit ≡ 4096) × (ovn ≡ None) × (4096 ≤ length s.references))
-    ⊎ (((limit ≡ 4294967295) × IsRecorded s flight (λ r. r.reference.version ≡ 4294967295))
-    ⊎ ((limit ≡ 9999999999999999) × (9999999999999999 ≤ length s.landings)))
+    ((limit ≡ most_references) × (ovn ≡ None) × (most_references ≤ length s.references))
+    ⊎ (((limit ≡ last_version) × IsRecorded s flight (λ r. r.reference.version ≡ last_version))
+    ⊎ ((limit ≡ most_landings) × (most_landings ≤ length s.landings)))
 
 abbrev pub GetCause : Service → ℕ → DssRefusal → Type 0
 GetCause s flight Retired = Has s.retired_flights flight
@@ -59,7 +60,7 @@ GetCause s flight _ = ⊥
 
 abbrev pub PutCause : Service → List ℕ → ℕ → Option (List ℕ) → List Volume4D → List (List ℕ) → State → ℕ → DssRefusal → Type 0
 PutCause s client flight ovn extents key state ticket BadCall =
-    (length extents ≡ 0) ⊎ ((64 < length extents) ⊎ ((10000 < vertex_count extents) ⊎ (1024 < length key)))
+    (length extents ≡ 0) ⊎ ((most_extents < length extents) ⊎ ((most_vertices < vertex_count extents) ⊎ (most_ovns < length key)))
 PutCause s client flight ovn extents key state ticket NotYours = IsRecorded s flight (λ r. r.reference.manager ≢ client)
 PutCause s client flight ovn extents key state ticket Exists = (ovn ≡ None) × IsRecorded s flight Whatever
 PutCause s client flight ovn extents key state ticket Retired = Has s.retired_flights flight
@@ -85,7 +86,7 @@ abbrev pub TicketPutCause : Service → List ℕ → ℕ → DssRefusal → Type
 TicketPutCause s client ticket NotYours = IsThere s ticket (λ t. t.manager ≢ client)
 TicketPutCause s client ticket Exists = IsThere s ticket Whatever
 TicketPutCause s client ticket Retired = Has s.retired_tickets ticket
-TicketPutCause s client ticket (Full limit) = (limit ≡ 8192) × (8192 ≤ length s.tickets)
+TicketPutCause s client ticket (Full limit) = (limit ≡ most_tickets) × (most_tickets ≤ length s.tickets)
 TicketPutCause s client ticket _ = ⊥
 
 abbrev pub TicketGetCause : Service → List ℕ → ℕ → DssRefusal → Type 0

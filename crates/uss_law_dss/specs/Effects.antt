@@ -3,6 +3,7 @@
 use Rattle.std.specs.Prelude.{ℕ, ◌<◌, ◌≤◌, ◌≡◌, ◌≢◌, true, false, List, length, Option, Some, None}
 use Rattle.uss_vol4.specs.Volume.{Volume4D}
 use Rattle.uss_vol4.specs.Bounding.{bounding_box, box_of}
+use Rattle.uss_intent.specs.Limits.{most_ovns, most_extents, most_vertices, most_references, most_tickets, last_version, most_landings}
 use Rattle.uss_intent.specs.declared.records.Recorded.{Recorded}
 use Rattle.uss_intent.specs.declared.records.Ticket.{Ticket}
 use Rattle.uss_intent.specs.declared.records.State.{State}
@@ -29,19 +30,19 @@ pub record Lands (s : Service) (client : List ℕ) (ask : DssAsk) (out : DssRepl
   pub is : ask ≡ Put flight ovn extents key state base ticket
   pub out_is : out ≡ after_put s client flight ovn extents state base ticket
   pub some_extents : 0 < length extents
-  pub few_extents : length extents ≤ 64
-  pub few_vertices : vertex_count extents ≤ 10000
-  pub few_ovns : length key ≤ 1024
+  pub few_extents : length extents ≤ most_extents
+  pub few_vertices : vertex_count extents ≤ most_vertices
+  pub few_ovns : length key ≤ most_ovns
   pub not_retired : is_one_of flight s.retired_flights ≡ false
   -- a creation is of a flight that isn't recorded
-  pub creates : ovn ≡ None → (recorded_of flight s ≡ None) × (length s.references < 4096)
+  pub creates : ovn ≡ None → (recorded_of flight s ≡ None) × (length s.references < most_references)
   -- a change is of the client's own reference, by its OVN
-  pub changes : (o : List ℕ) → ovn ≡ Some o → (r : Recorded) × (recorded_of flight s ≡ Some r) × (r.reference.manager ≡ client) × (r.reference.ovn ≡ Some o) × (r.reference.version ≢ 4294967295)
+  pub changes : (o : List ℕ) → ovn ≡ Some o → (r : Recorded) × (recorded_of flight s ≡ Some r) × (r.reference.manager ≡ client) × (r.reference.ovn ≡ Some o) × (r.reference.version ≢ last_version)
   -- the cited ticket is the client's own, and its area covers the extents
   pub cites : (t : Ticket) × (ticket_of ticket s ≡ Some t) × (t.manager ≡ client) × (lies_in (bounding_box extents) (box_of t.area) ≡ true)
   -- the key has the OVN of each relevant reference
   pub keyed : is_strategic state ≡ true → (r : Recorded) → Has (relevant flight extents s) r → in_key key r.reference ≡ true
-  pub room : length s.landings < 9999999999999999
+  pub room : length s.landings < most_landings
 
 -- the end of a reference
 pub record Removes (s : Service) (client : List ℕ) (ask : DssAsk) (out : DssReply × Service) : Type 0 where
@@ -61,7 +62,7 @@ pub record MakesTicket (s : Service) (client : List ℕ) (ask : DssAsk) (out : D
   pub is : ask ≡ TicketPut ticket area base
   pub absent : ticket_of ticket s ≡ None
   pub not_retired : is_one_of ticket s.retired_tickets ≡ false
-  pub room : length s.tickets < 8192
+  pub room : length s.tickets < most_tickets
   pub out_is : out ≡ after_ticket_put s client ticket area base
 
 pub record TakesTicketOut (s : Service) (client : List ℕ) (ask : DssAsk) (out : DssReply × Service) : Type 0 where

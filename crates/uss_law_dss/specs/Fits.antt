@@ -1,5 +1,6 @@
 -- Which replies of the discovery service fit a call. A client takes any other reply as unreadable. This project's own.
 use Rattle.std.specs.Prelude.{ℕ, Bool, true, false, ◌&&◌, ◌==◌, nat_lt, nat_le, List, [], ◌∷◌, length, is_some}
+use Rattle.uss_intent.specs.Limits.{most_references, most_tickets}
 use Rattle.uss_intent.specs.declared.records.Reference.{Reference}
 use Rattle.uss_intent.specs.declared.records.Subscriber.{Subscriber}
 use Rattle.uss_intent.specs.declared.calls.DssAsk.{DssAsk}
@@ -23,10 +24,10 @@ ascend (r ∷ rs) = is_before r.flight rs && ascend rs
 
 -- references as a Query or a refusal for want of a key may list them
 abbrev pub is_list : List Reference → Bool
-is_list rs = nat_le (length rs) 4096 && ascend rs
+is_list rs = nat_le (length rs) most_references && ascend rs
 
 abbrev pub are_few : List Subscriber → Bool
-are_few subscribers = nat_le (length subscribers) 8192
+are_few subscribers = nat_le (length subscribers) most_tickets
 
 -- any refusal fits, where the references that it lists do
 abbrev pub refusal_fits : DssRefusal → Bool

@@ -1,6 +1,7 @@
 -- What holds of every state of the discovery service, from a new service on, after any calls.
 use Rattle.std.specs.Prelude.{ℕ, ◌+◌, ◌<◌, ◌≤◌, ◌≡◌, ◌⊎◌, true, false, ◌==◌, List, [], ◌∷◌, length, count_by, Option, Some, None, unwrap_or, if◌then◌else◌}
 use Rattle.uss_vol4.specs.Bounding.{bounding_box}
+use Rattle.uss_intent.specs.Limits.{most_references, most_tickets, last_version, most_landings}
 use Rattle.uss_intent.specs.declared.records.Recorded.{Recorded}
 use Rattle.uss_intent.specs.declared.records.Reference.{Reference}
 use Rattle.uss_intent.specs.declared.records.Ticket.{Ticket}
@@ -58,9 +59,9 @@ pub record IsCovered (s : Service) (r : Reference) : Type 0 where
 pub record IsOrderly (s : Service) : Type 0 where
   pub references_ascend : Ascend flight_recorded s.references
   pub tickets_ascend : Ascend id_of s.tickets
-  pub few_references : length s.references ≤ 4096
-  pub few_tickets : length s.tickets ≤ 8192
-  pub few_landings : length s.landings ≤ 9999999999999999
+  pub few_references : length s.references ≤ most_references
+  pub few_tickets : length s.tickets ≤ most_tickets
+  pub few_landings : length s.landings ≤ most_landings
   -- what was removed isn't there
   pub flights_stay_retired : (r : Recorded) → Has s.references r → is_one_of r.reference.flight s.retired_flights ≡ false
   pub tickets_stay_retired : (t : Ticket) → Has s.tickets t → is_one_of t.id s.retired_tickets ≡ false
@@ -72,7 +73,7 @@ pub record IsOrderly (s : Service) : Type 0 where
   -- a recorded reference is its flight's last landing, and its version counts the flight's landings
   pub landed : (r : Recorded) → Has s.references r → (l : Landing) × (last_of r.reference.flight s.landings ≡ Some l) × IsAsLanded l r.reference
   pub versions : (r : Recorded) → Has s.references r → r.reference.version ≡ count_by (λ l. l.flight == r.reference.flight) s.landings
-  pub versions_fit : (r : Recorded) → Has s.references r → r.reference.version ≤ 4294967295
+  pub versions_fit : (r : Recorded) → Has s.references r → r.reference.version ≤ last_version
   -- an OVN belongs to one landing
   pub numbered : AreNumbered 0 s.landings
   -- a landing's flight is recorded or was removed

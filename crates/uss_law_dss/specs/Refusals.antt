@@ -4,6 +4,7 @@ use Rattle.std.specs.Prelude.{ℕ, Bool, true, false, not, ◌&&◌, ◌||◌, �
 use Rattle.std.specs.List.{list_any}
 use Rattle.uss_vol4.specs.Volume.{Volume4D}
 use Rattle.uss_vol4.specs.Bounding.{bounding_box, box_of}
+use Rattle.uss_intent.specs.Limits.{most_ovns, most_extents, most_vertices, most_references, most_tickets, last_version, most_landings}
 use Rattle.uss_intent.specs.declared.records.Recorded.{Recorded}
 use Rattle.uss_intent.specs.declared.records.Reference.{Reference}
 use Rattle.uss_intent.specs.declared.records.Ticket.{Ticket}
@@ -25,7 +26,7 @@ vertex_count extents = sum_by (λ v. length v.outline) extents
 -- 201: no extent, more than 64, more than 10,000 vertices together, or more than 1,024 OVNs
 abbrev pub is_bad_put : List Volume4D → List (List ℕ) → Bool
 is_bad_put extents key =
-    (length extents == 0) || (nat_lt 64 (length extents) || (nat_lt 10000 (vertex_count extents) || nat_lt 1024 (length key)))
+    (length extents == 0) || (nat_lt most_extents (length extents) || (nat_lt most_vertices (vertex_count extents) || nat_lt most_ovns (length key)))
 
 -- 202: the reference, or the ticket, is there and another client manages it
 abbrev pub is_others : List ℕ → Option Recorded → Bool
@@ -63,7 +64,7 @@ is_cited ticket rs = list_any (λ r. r.reference.ticket == ticket) rs
 -- 211: what is recorded has the greatest version
 abbrev pub is_at_last_version : Option Recorded → Bool
 is_at_last_version None = false
-is_at_last_version (Some r) = r.reference.version == 4294967295
+is_at_last_version (Some r) = r.reference.version == last_version
 
 -- the references as they are shown to a client
 abbrev pub shown_all : List ℕ → List Recorded → List Reference
@@ -84,9 +85,9 @@ put_tests s client flight ovn extents key state ticket =
     ∷ (is_no_ticket_of client t, NoTicket)
     ∷ (is_uncovered t extents, NotCovered)
     ∷ (is_strategic state && not (length missing == 0), MissingKey (shown_all client missing))
-    ∷ (is_none ovn && nat_le 4096 (length s.references), Full 4096)
-    ∷ (is_at_last_version r, Full 4294967295)
-    ∷ (nat_le 9999999999999999 (length s.landings), Full 9999999999999999)
+    ∷ (is_none ovn && nat_le most_references (length s.references), Full most_references)
+    ∷ (is_at_last_version r, Full last_version)
+    ∷ (nat_le most_landings (length s.landings), Full most_landings)
     ∷ []
 
 -- the tests of a call
@@ -109,7 +110,7 @@ tests_of s client (TicketPut ticket area base) =
     (is_others_ticket client t, NotYours)
     ∷ (is_some t, Exists)
     ∷ (is_one_of ticket s.retired_tickets, Retired)
-    ∷ (nat_le 8192 (length s.tickets), Full 8192)
+    ∷ (nat_le most_tickets (length s.tickets), Full most_tickets)
     ∷ []
 tests_of s client (TicketGet ticket) =
     let t = ticket_of ticket s in

@@ -26,7 +26,7 @@ use Rattle.uss_law_duty.proofs.Worked.{each_one, none_sent, room_ticket, room_he
 use Rattle.uss_law_duty.specs.Duties.{MayStep}
 use Rattle.uss_law_duty.specs.Worked.{other_ovn, other_pair, keyed, keyed_put, keyed_book, details_of_other, held_pair, end_ask, end_opened, ending_book, remove, end_sends, end_replied, end_done, now, owner, volume, proposal, ask, flight, ticket, ovn, ticket_book, held_book, sends, the_reference}
 use Rattle.uss_law_duty.specs.Sends.{OfDss, OfPeer, RecordsAreDue, TicketsAreDue, RemovalsAreDue, NotesAreHeld, IsPutOf, IsRemoveOf}
-use Rattle.uss_law_duty.specs.Heard.News.{Heard}
+use Rattle.uss_event.specs.Heard.News.{Heard}
 use Rattle.uss_law_duty.specs.Entered.{candidate_of, KeyIsClear, IsClearOvn, LosesByReply}
 use Rattle.uss_law_duty.specs.Answers.{kept_answer}
 use Rattle.uss_law_duty.specs.Sayings.{IsKeptAnswer}

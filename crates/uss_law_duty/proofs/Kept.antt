@@ -6,8 +6,8 @@ use Rattle.uss_event.specs.Pairs.{OperationalIntent}
 use Rattle.uss_law_dss.specs.Lists.{Has}
 use Rattle.uss_law_dss.proofs.Lists.{has_right, has_filter, has_passed, has_push, find_has, find_none, length-filter_le}
 use Rattle.uss_law_dss.proofs.Tests.{same_number, equal_number, unequal_number, not_true, less_is, not_le, not_both, some_same}
-use Rattle.uss_law_duty.specs.Heard.{News, kept_pairs, kept_pair, kept_from, after_news, in_place, with_room, without, is_of, most_kept}
-use Rattle.uss_law_duty.specs.Heard.News.{Heard, Forgotten}
+use Rattle.uss_event.specs.Heard.{News, kept_pairs, kept_pair, kept_from, after_news, in_place, with_room, without, is_of, most_kept}
+use Rattle.uss_event.specs.Heard.News.{Heard, Forgotten}
 use Rattle.uss_law_duty.specs.Kept.{IsLastHeard, AreApart}
 
 abbrev pub flight : OperationalIntent → ℕ

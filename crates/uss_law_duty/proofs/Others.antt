@@ -19,7 +19,7 @@ use Rattle.uss_law_book.specs.Legal.{MayHold, MayTell, MayFollow}
 use Rattle.uss_law_duty.proofs.Worked.{each_one, none_sent, room_tried}
 use Rattle.uss_law_duty.proofs.Further.{is_held_now}
 use Rattle.uss_law_duty.specs.Duties.{MayStep, GoesOn}
-use Rattle.uss_law_duty.specs.Heard.News.{Heard, Forgotten}
+use Rattle.uss_event.specs.Heard.News.{Heard, Forgotten}
 use Rattle.uss_law_duty.specs.Sayings.{IsInside}
 use Rattle.uss_law_duty.specs.Sends.{OfDss, OfPeer, RecordsAreDue, TicketsAreDue, RemovalsAreDue, NotesAreHeld}
 use Rattle.uss_law_duty.specs.Worked.{now, owner, volume, subscriber, tried_book, held_book, held_pair, owing, owing_book, notify, notified, note_of_other, note_of_end, other_pair, under_way, inside, above_it}

@@ -7,8 +7,8 @@ use Rattle.uss_event.specs.Pairs.{OperationalIntent}
 use Rattle.uss_law_dss.specs.Lists.{Has}
 use Rattle.uss_law_dss.proofs.Lists.{has_left, has_right, has_last, has_push}
 use Rattle.uss_law_dss.proofs.Tests.{same_number, equal_number, not_less, less_is, not_both, some_same}
-use Rattle.uss_law_duty.specs.Heard.{News, kept_pairs, kept_pair, kept_from, after_news, in_place, with_room, without, is_of, most_kept}
-use Rattle.uss_law_duty.specs.Heard.News.{Heard, Forgotten}
+use Rattle.uss_event.specs.Heard.{News, kept_pairs, kept_pair, kept_from, after_news, in_place, with_room, without, is_of, most_kept}
+use Rattle.uss_event.specs.Heard.News.{Heard, Forgotten}
 use Rattle.uss_law_duty.specs.Kept.{AreApart, AreCrowding}
 use Rattle.uss_law_duty.proofs.Kept.{flight, version, each_news, kept_append, none_of, without_has, without_round, apart_push, apart_news, found_apart, keeps_all}
 

@@ -23,7 +23,7 @@ use Rattle.uss_law_book.specs.Lists.{Opening}
 use Rattle.uss_law_book.specs.Reserve.{need, reserved}
 use Rattle.uss_law_book.specs.Legal.{MayTry, MayFollow}
 use Rattle.uss_law_duty.specs.Duties.{MayStep}
-use Rattle.uss_law_duty.specs.Heard.News.{Heard}
+use Rattle.uss_event.specs.Heard.News.{Heard}
 use Rattle.uss_law_duty.specs.Sends.{OfDss, OfPeer, RecordsAreDue, TicketsAreDue, RemovalsAreDue, NotesAreHeld, IsPutOf}
 use Rattle.uss_law_duty.specs.Entered.{candidate_of, KeyIsClear, IsClearOvn}
 use Rattle.uss_law_duty.proofs.Worked.{each_one}

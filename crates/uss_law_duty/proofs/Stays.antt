@@ -6,7 +6,7 @@ use Rattle.uss_event.specs.declared.events.Said.{Said}
 use Rattle.uss_event.specs.declared.events.Event.{Event}
 use Rattle.uss_law_book.specs.Legal.{MayFollow, IsLegal}
 use Rattle.uss_law_book.proofs.EachOrderly.{legal_longer}
-use Rattle.uss_law_duty.specs.Heard.{News}
+use Rattle.uss_event.specs.Heard.{News}
 use Rattle.uss_law_duty.specs.Duties.{book_after, MayStep}
 
 legal_after : (book : List Entry) (entry : Option Entry) → IsLegal book → IfSome entry (MayFollow book) → IsLegal (book_after book entry)

@@ -2,6 +2,7 @@
 -- The moment is one within the range of instants. This project's own, after the strategic coordination of ASTM F3548-21.
 use Rattle.std.specs.Prelude.{ℕ, ◌≡◌, ◌⊎◌, ℤ, pos, Bool, true, false, not, ◌&&◌, List, [], ◌∷◌, ◌++◌, length, Option, Some, None, is_some, IfSome}
 use Rattle.std.specs.Int.{int_min, int_max}
+use Rattle.uss_vol4.specs.Volume.{earliest, latest}
 use Rattle.uss_intent.specs.declared.calls.DssAsk.{DssAsk}
 use Rattle.uss_intent.specs.declared.calls.DssAsk.TheVariants as Asks
 use Rattle.uss_event.specs.declared.entries.Owner.{Owner}
@@ -17,7 +18,7 @@ use Rattle.uss_law_dss.specs.Lists.{Has}
 use Rattle.uss_law_book.specs.Lists.{owner_of}
 use Rattle.uss_law_book.specs.Readings.{opening_of, is_closed}
 use Rattle.uss_law_book.specs.Legal.{MayFollow}
-use Rattle.uss_law_duty.specs.Heard.{News, brought}
+use Rattle.uss_event.specs.Heard.{News, brought}
 use Rattle.uss_law_duty.specs.Answers.{job_of_call}
 use Rattle.uss_law_duty.specs.Sends.{OfDss, OfPeer, RecordsAreDue, TicketsAreDue, RemovalsAreDue, NotesAreHeld}
 use Rattle.uss_law_duty.specs.Entered.{KeyIsClear, HeldIsShown, RemovalIsShown, TicketIsShown}
@@ -70,7 +71,7 @@ pub record Choice : Type 0 where
 
 -- a moment within the range of instants, 2000-01-01 to 2200-01-01: one outside is taken as the nearest bound
 unfoldable pub clamped : ℤ → ℤ
-clamped moment = int_max (pos 946684800000000000) (int_min moment (pos 7258118400000000000))
+clamped moment = int_max earliest (int_min moment latest)
 
 -- what a step may enter, send and say, whatever was heard before
 pub record MayAct (book : List Entry) (moment : ℤ) (event : Event) (entry : Option Entry) (sends : List Outgoing) (said : Said) : Type 0 where

@@ -24,8 +24,8 @@ use Rattle.uss_law_dss.specs.Fits.{fits}
 use Rattle.uss_law_book.specs.Lists.{Opening}
 use Rattle.uss_law_book.specs.Readings.{opening_of, is_open, decision_of, is_ended}
 use Rattle.uss_law_book.specs.Attempts.{Attempted, attempt_of, extents_of, put_of, held}
-use Rattle.uss_law_duty.specs.Heard.{News, brought}
-use Rattle.uss_law_duty.specs.Heard.News.{Heard}
+use Rattle.uss_event.specs.Heard.{News, brought}
+use Rattle.uss_event.specs.Heard.News.{Heard}
 use Rattle.uss_law_duty.specs.Answers.{flight_of}
 use Rattle.uss_law_duty.specs.Sends.{IsTicketPutOf, IsRemoveOf, ticket_remove, IsHeldPair}
 

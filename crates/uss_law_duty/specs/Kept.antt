@@ -2,8 +2,8 @@
 use Rattle.std.specs.Prelude.{ℕ, ◌<◌, ◌≤◌, ◌≡◌, ◌≢◌, List, [], ◌∷◌, ◌++◌, length}
 use Rattle.uss_event.specs.Pairs.{OperationalIntent}
 use Rattle.uss_law_dss.specs.Lists.{Has}
-use Rattle.uss_law_duty.specs.Heard.{News, most_kept}
-use Rattle.uss_law_duty.specs.Heard.News.{Heard, Forgotten}
+use Rattle.uss_event.specs.Heard.{News, most_kept}
+use Rattle.uss_event.specs.Heard.News.{Heard, Forgotten}
 
 -- the pair was heard; since then its flight wasn't forgotten, and each pair of the flight that was heard is older
 pub record IsLastHeard (heard : List News) (p : OperationalIntent) : Type 0 where

@@ -1,4 +1,3 @@
-pub mod Heard
 pub mod Kept
 pub mod Answers
 pub mod Sends

@@ -2,6 +2,7 @@
 use Rattle.std.specs.Prelude.{ℕ, ◌<◌, ◌≡◌, ℤ, pos, ◌<ℤ◌, true, false, not, ◌==◌, List, length, filter, Any, Some, unwrap_or, IfSome}
 use Rattle.uss_vol4.specs.Volume.{Volume4D}
 use Rattle.uss_vol4.specs.Volume as Volumes
+use Rattle.uss_intent.specs.Limits.{most_ovns}
 use Rattle.uss_intent.specs.Refusals.{refusal_number}
 use Rattle.uss_intent.specs.declared.records.Reference.{Reference}
 use Rattle.uss_intent.specs.declared.calls.DssReply.{DssReply}
@@ -53,7 +54,7 @@ others flight rs = filter (λ r. not (r.flight == flight)) rs
 
 -- a plan looks at no more references of other flights than these, since its key may have an OVN for each, and a key has no more
 abbrev pub most_looked_at : ℕ
-most_looked_at = 1024
+most_looked_at = most_ovns
 
 -- a job is open, and asked this of the discovery service, which replied so
 pub record CrowdedBy (owner : Owner) (book : List Entry) (call : DssCall) (reply : DssReply) (count : ℕ) : Type 0 where

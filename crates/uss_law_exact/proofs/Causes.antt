@@ -42,7 +42,7 @@ use Rattle.uss_law_book.specs.Lists.{Opening, openings}
 use Rattle.uss_law_book.specs.Readings.{opening_of, is_closed, is_open, decision_of, last_of, open_job_of, owed_of}
 use Rattle.uss_law_book.specs.Attempts.{held}
 use Rattle.uss_law_book.proofs.Kept.{opening_has}
-use Rattle.uss_law_duty.specs.Heard.{News}
+use Rattle.uss_event.specs.Heard.{News}
 use Rattle.uss_law_duty.specs.Answers.{flight_of, job_of_call}
 use Rattle.uss_law_duty.specs.Sends.{ticket_remove}
 use Rattle.uss_law_supplier.specs.declared.duties.Awaited.{Awaited}

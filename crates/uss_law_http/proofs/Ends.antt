@@ -4,9 +4,9 @@ use Rattle.std.proofs.Math.Seq.{take-append-add}
 use Rattle.std.proofs.lemmas.List.Elements.{All-head, All-tail}
 use Rattle.httparse.specs.Ascii.{crlf_bytes}
 use Rattle.httparse.specs.Grammar.{ChunkLine, print_chunk_line, chunk_size, NeverHasChunkLine, LineEnd, Field, print_section, NeverHasSection}
-use Rattle.uss_http_base.specs.Pieces.{piece_limit}
-use Rattle.uss_http_base.specs.Fields.{body_limit}
-use Rattle.uss_http_base.specs.Chunks.{Chunk, IsChunk, chunks_text, body_of, IsLastLine, AreTrailers, IsOpenLine, AreOpenTrailers, HasLineEnd, IsOpenLineEnd, NeverHasLineEnd, HasSizeLine, ChunkFault, no_line, long_line, no_line_end, bad_trailers, long_trailers, IsTooMuch, IsCutOff, in_line, in_data, before_line_end, in_trailers, StopsWhere, IsChunked}
+use Rattle.uss_http_request.specs.Pieces.{piece_limit}
+use Rattle.uss_http_request.specs.Fields.{body_limit}
+use Rattle.uss_http_request.specs.Chunks.{Chunk, IsChunk, chunks_text, body_of, IsLastLine, AreTrailers, IsOpenLine, AreOpenTrailers, HasLineEnd, IsOpenLineEnd, NeverHasLineEnd, HasSizeLine, ChunkFault, no_line, long_line, no_line_end, bad_trailers, long_trailers, IsTooMuch, IsCutOff, in_line, in_data, before_line_end, in_trailers, StopsWhere, IsChunked}
 use Rattle.uss_law_http.proofs.One.{same_front, lines, group}
 
 -- what comes: something malformed, a chunk that is too much, the end, the end of the body, or one more chunk

@@ -2,3 +2,10 @@ pub mod One
 pub mod Ends
 pub mod Same
 pub mod Responses
+pub mod Texts
+pub mod Decided
+pub mod ReadHosts
+pub mod Hosts
+pub mod WorkedHosts
+pub mod RequestsAgain
+pub mod ResponsesAgain

@@ -9,19 +9,19 @@ use Rattle.httparse.specs.Grammar.{RequestHead, print_request, ReadsRequest, Chu
 use Rattle.httparse.specs.Spans.{name_and_value}
 use Rattle.httparse.proofs.GrammarLemmas.{request_unique}
 use Rattle.httparse.proofs.ChunkLemmas.{chunk_line_unique}
-use Rattle.uss_http_base.specs.declared.fields.Framing.{Framing}
-use Rattle.uss_http_base.specs.declared.fields.Framing.TheVariants.{Nothing, Length, Chunked}
-use Rattle.uss_http_base.specs.declared.heads.Head.{Head}
-use Rattle.uss_http_base.specs.declared.refusal.ReadRefusal.{ReadRefusal}
-use Rattle.uss_http_base.specs.declared.refusal.ReadRefusal.TheVariants as refusal
-use Rattle.uss_http_base.specs.declared.request.Request.{Request}
-use Rattle.uss_http_base.specs.Pieces.{piece_limit}
-use Rattle.uss_http_base.specs.Fields.{framing_of, client_of}
-use Rattle.uss_http_base.specs.Heads.{BeginsWith, IsOpenHead, BeginsNoHead}
-use Rattle.uss_http_base.specs.HeadAnswers.{IsHeadWith, HasHead, HasRefusedHead, IsRefusedHead}
-use Rattle.uss_http_base.specs.Chunks.{Chunk, print_chunk, IsChunk, chunks_text, body_of, IsLastLine}
-use Rattle.uss_http_base.specs.Bodies.{IsBody, IsRefusedBody}
-use Rattle.uss_http_base.specs.Requests.{IsRequest}
+use Rattle.uss_http_request.specs.declared.fields.Framing.{Framing}
+use Rattle.uss_http_request.specs.declared.fields.Framing.TheVariants.{Nothing, Length, Chunked}
+use Rattle.uss_http_request.specs.declared.heads.Head.{Head}
+use Rattle.uss_http_request.specs.declared.refusal.ReadRefusal.{ReadRefusal}
+use Rattle.uss_http_request.specs.declared.refusal.ReadRefusal.TheVariants as refusal
+use Rattle.uss_http_request.specs.declared.request.Request.{Request}
+use Rattle.uss_http_request.specs.Pieces.{piece_limit}
+use Rattle.uss_http_request.specs.Fields.{framing_of, client_of}
+use Rattle.uss_http_request.specs.Heads.{BeginsWith, IsOpenHead, BeginsNoHead}
+use Rattle.uss_http_request.specs.HeadAnswers.{IsHeadWith, HasHead, HasRefusedHead, IsRefusedHead}
+use Rattle.uss_http_request.specs.Chunks.{Chunk, print_chunk, IsChunk, chunks_text, body_of, IsLastLine}
+use Rattle.uss_http_request.specs.Bodies.{IsBody, IsRefusedBody}
+use Rattle.uss_http_request.specs.Requests.{IsRequest}
 
 one_tree : (bytes : List ℕ) (h k : RequestHead) (r q : List ℕ) → BeginsWith bytes h r → BeginsWith bytes k q → (h ≡ k) × (r ≡ q)
 one_tree bytes h k r q x y = request_unique bytes h k r q (x.valid, x.spelled) (y.valid, y.spelled)

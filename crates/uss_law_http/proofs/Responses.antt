@@ -5,10 +5,10 @@ use Rattle.std.specs.Prelude.{map, option_map, Option, Result}
 use Rattle.httparse.specs.Grammar.{ResponseHead, print_response, status_code, ReadsResponse, NeverHasResponse}
 use Rattle.httparse.specs.Spans.{name_and_value}
 use Rattle.httparse.proofs.GrammarLemmas.{response_unique}
-use Rattle.uss_http_base.specs.declared.refusal.ReadRefusal.{ReadRefusal}
-use Rattle.uss_http_base.specs.declared.refusal.ReadRefusal.TheVariants as refusal
-use Rattle.uss_http_base.specs.Pieces.{piece_limit}
-use Rattle.uss_http_base.specs.Fields.{framing_of}
+use Rattle.uss_http_request.specs.declared.refusal.ReadRefusal.{ReadRefusal}
+use Rattle.uss_http_request.specs.declared.refusal.ReadRefusal.TheVariants as refusal
+use Rattle.uss_http_request.specs.Pieces.{piece_limit}
+use Rattle.uss_http_request.specs.Fields.{framing_of}
 use Rattle.uss_http_response.specs.declared.heads.BodyEnd.{BodyEnd}
 use Rattle.uss_http_response.specs.declared.heads.BodyEnd.TheVariants.{Framed, AtTheEnd}
 use Rattle.uss_http_response.specs.declared.heads.StatusHead.{StatusHead}

@@ -1,14 +1,14 @@
 -- The same bytes have one answer.
 use Rattle.std.proofs.Common.{◌≡◌, List, ℕ, refl, sym, ap, subst, inl, inr, Ok, Err}
 use Rattle.std.specs.Prelude.{Result}
-use Rattle.uss_http_base.specs.declared.fields.Framing.{Framing}
-use Rattle.uss_http_base.specs.declared.fields.Framing.TheVariants.{Nothing, Length, Chunked}
-use Rattle.uss_http_base.specs.declared.heads.Head.{Head}
-use Rattle.uss_http_base.specs.declared.refusal.ReadRefusal.{ReadRefusal}
-use Rattle.uss_http_base.specs.declared.refusal.ReadRefusal.TheVariants as refusal
-use Rattle.uss_http_base.specs.declared.request.Request.{Request}
-use Rattle.uss_http_base.specs.Bodies.{IsBody, IsRefusedBody}
-use Rattle.uss_http_base.specs.Requests.{IsRequest, IsRefused, IsAnswerOf}
+use Rattle.uss_http_request.specs.declared.fields.Framing.{Framing}
+use Rattle.uss_http_request.specs.declared.fields.Framing.TheVariants.{Nothing, Length, Chunked}
+use Rattle.uss_http_request.specs.declared.heads.Head.{Head}
+use Rattle.uss_http_request.specs.declared.refusal.ReadRefusal.{ReadRefusal}
+use Rattle.uss_http_request.specs.declared.refusal.ReadRefusal.TheVariants as refusal
+use Rattle.uss_http_request.specs.declared.request.Request.{Request}
+use Rattle.uss_http_request.specs.Bodies.{IsBody, IsRefusedBody}
+use Rattle.uss_http_request.specs.Requests.{IsRequest, IsRefused, IsAnswerOf}
 use Rattle.uss_law_http.specs.Found.{IsByTheBytes}
 use Rattle.uss_law_http.proofs.One.{one_head, one_whole, no_refused_head, one_reason, one_length, one_sized_reason}
 use Rattle.uss_law_http.proofs.Ends.{malformed, much, cut, whole, one_kind, comes_fault, comes_much, comes_cut, comes_whole}

@@ -1,9 +1,9 @@
 -- Which answers the bytes decide. This project's own.
 use Rattle.std.specs.Prelude.{Result, Ok, Err}
-use Rattle.uss_http_base.specs.declared.request.Request.{Request}
+use Rattle.uss_http_request.specs.declared.request.Request.{Request}
 use Rattle.uss_http_response.specs.declared.response.Response.{Response}
-use Rattle.uss_http_base.specs.declared.refusal.ReadRefusal.{ReadRefusal}
-use Rattle.uss_http_base.specs.declared.refusal.ReadRefusal.TheVariants as refusal
+use Rattle.uss_http_request.specs.declared.refusal.ReadRefusal.{ReadRefusal}
+use Rattle.uss_http_request.specs.declared.refusal.ReadRefusal.TheVariants as refusal
 
 -- the bytes alone decide it: it is neither a fault nor want of memory
 abbrev pub IsByTheBytes : Result Request ReadRefusal → Type 0

@@ -46,7 +46,7 @@ use Rattle.uss_law_book.proofs.Entries.{openings_append, closed_by_either}
 use Rattle.uss_law_book.proofs.Kept.{opening_has}
 use Rattle.uss_law_book.proofs.Held.{opening_is_found}
 use Rattle.uss_law_book.proofs.EachOrderly.{orderly_after}
-use Rattle.uss_law_duty.specs.Heard.{News}
+use Rattle.uss_event.specs.Heard.{News}
 use Rattle.uss_law_duty.specs.Answers.{job_of_request, job_named}
 use Rattle.uss_law_duty.specs.Sayings.{RefusalHasCause, SayingHasCause}
 use Rattle.uss_law_supplier.specs.declared.duties.Awaited.{Awaited}

@@ -36,8 +36,8 @@ use Rattle.uss_law_book.specs.Legal.{IsBlind, ArePlans, MayEndSo, EndsUntried, E
 use Rattle.uss_law_book.specs.Orderly.{IsOrderly}
 use Rattle.uss_law_book.proofs.Attempts.{owner_kept, parts}
 use Rattle.uss_law_book.proofs.Entries.{trials_append, opening_kept}
-use Rattle.uss_law_duty.specs.Heard.{News, brought, kept_pair}
-use Rattle.uss_law_duty.specs.Heard.News.{Heard}
+use Rattle.uss_event.specs.Heard.{News, brought, kept_pair}
+use Rattle.uss_event.specs.Heard.News.{Heard}
 use Rattle.uss_law_duty.specs.Answers.{flight_of, job_named}
 use Rattle.uss_law_duty.specs.Duties.{HearsOnly}
 use Rattle.uss_law_duty.specs.Sends.{IsHeldPair}

@@ -27,7 +27,7 @@ use Rattle.uss_law_book.specs.Lists.{Opening}
 use Rattle.uss_law_book.specs.Readings.{opening_of, is_closed, puts, owed_of, is_told, untold, is_ticket_open, is_ticket_gone, is_ticket_needed, keeps_ticket}
 use Rattle.uss_law_book.specs.Legal.{IsDue}
 use Rattle.uss_law_book.proofs.Kept.{opening_has}
-use Rattle.uss_law_duty.specs.Heard.{News}
+use Rattle.uss_event.specs.Heard.{News}
 use Rattle.uss_law_duty.specs.Answers.{job_of_call}
 use Rattle.uss_law_duty.specs.Duties.{is_ticket_remove, is_awaited, is_prompting}
 use Rattle.uss_law_duty.specs.Sends.{ticket_remove}

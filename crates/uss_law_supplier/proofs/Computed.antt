@@ -11,7 +11,7 @@ use Rattle.uss_law_book.specs.Coding.{journal_length}
 use Rattle.uss_law_book.specs.Reserve.{need}
 use Rattle.uss_law_book.specs.Readings.{last_of, jobs_of, open_job_of, has_ended, holding, holdings_of, decision_of, trials_of, trial_of, is_ticket_open, ending_of, holding_of, is_done, is_held, is_job_of, is_ticket_gone, is_ticket_needed, is_told, opening_of, owed_of, untold, owns}
 use Rattle.uss_law_book.specs.Attempts.{attempt_of, held}
-use Rattle.uss_law_duty.specs.Heard.{kept_pairs}
+use Rattle.uss_event.specs.Heard.{kept_pairs}
 use Rattle.uss_law_duty.specs.Answers.{kept_answer}
 use Rattle.uss_law_duty.specs.Duties.{clamped}
 use Rattle.uss_law_supplier.specs.Values.{progress_of, unawaited, with_progress, without_job, sightings_of}

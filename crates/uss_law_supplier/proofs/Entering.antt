@@ -18,7 +18,7 @@ use Rattle.uss_intent.specs.Texts.{IsOvn}
 use Rattle.uss_intent.specs.States.{is_strategic}
 use Rattle.uss_law_book.specs.Coding.{IsDecision, IsEnding, AreOwed}
 use Rattle.uss_law_book.specs.Legal.{IsBlind, MayEndSo, MayEnd, MayHold, IsDue, ArePlans}
-use Rattle.uss_law_duty.specs.Heard.{News}
+use Rattle.uss_event.specs.Heard.{News}
 use Rattle.uss_law_duty.specs.Answers.{job_named}
 use Rattle.uss_law_duty.specs.Entered.{KeyIsClear, EndsAs, OpensByReply, HoldsByReply}
 use Rattle.uss_law_supplier.specs.declared.duties.Awaited.TheVariants as Waits

@@ -11,7 +11,7 @@ use Rattle.uss_law_book.specs.Lists.{Opening, owner_of, openings}
 use Rattle.uss_law_book.specs.Reserve.{ReserveCovers}
 use Rattle.uss_law_book.specs.Legal.{MayFollow, IsLegal}
 use Rattle.uss_law_book.specs.Orderly.{IsOrderly}
-use Rattle.uss_law_duty.specs.Heard.{News}
+use Rattle.uss_event.specs.Heard.{News}
 use Rattle.uss_law_duty.specs.Duties.{book_after, HearsOnly, GoesOn, MayStep, says_something}
 use Rattle.uss_law_duty.specs.Entered.{KeyIsClear, HeldIsShown, RemovalIsShown, TicketIsShown}
 use Rattle.uss_law_duty.specs.Sayings.{PairIsHeld, FinalIsKept, SayingHasCause}

@@ -35,7 +35,7 @@ use Rattle.uss_plan.specs.declared.choice.Choice.TheVariants.{Chosen, Blocked}
 use Rattle.uss_law_book.specs.Lists.{Opening, Trial, Closing}
 use Rattle.uss_law_book.specs.Readings.{is_closed, decision_of, trials_of, opening_of, open_job_of, last_of}
 use Rattle.uss_law_book.specs.Attempts.{held}
-use Rattle.uss_law_duty.specs.Heard.{News, by_pair}
+use Rattle.uss_event.specs.Heard.{News, by_pair}
 use Rattle.uss_law_duty.specs.Entered.{shown_tag}
 use Rattle.uss_law_duty.specs.Duties.{clamped}
 use Rattle.uss_law_duty.specs.Answers.{job_of_call}

@@ -8,7 +8,7 @@ use Rattle.uss_event.specs.Pairs.{OperationalIntent}
 use Rattle.uss_event.specs.declared.calls.PeerReply.TheVariants as Peers
 use Rattle.uss_law_dss.specs.Lists.{Has}
 use Rattle.uss_law_dss.proofs.Lists.{has_append}
-use Rattle.uss_law_duty.specs.Heard.News.{Heard}
+use Rattle.uss_event.specs.Heard.News.{Heard}
 use Rattle.uss_law_supplier.specs.Typed.{IsIntent, IsEvent, IsHeard}
 use Rattle.uss_event.specs.declared.entries.Owner.{Owner}
 use Rattle.uss_event.specs.declared.entries.Entry.{Entry}
@@ -20,7 +20,7 @@ use Rattle.uss_law_book.specs.Lists.{owner_of}
 use Rattle.uss_law_book.specs.Legal.{MayFollow, IsLegal}
 use Rattle.uss_law_book.proofs.Attempts.{owner_kept}
 use Rattle.uss_law_book.proofs.EachOrderly.{legal_is_orderly, legal_longer}
-use Rattle.uss_law_duty.specs.Heard.{News, by_pair, brought}
+use Rattle.uss_event.specs.Heard.{News, by_pair, brought}
 use Rattle.uss_law_duty.specs.Duties.{book_after, HearsOnly, MayStep, clamped}
 use Rattle.uss_law_supplier.specs.Values.{Values, hearing, no_values, progress_of}
 use Rattle.uss_law_supplier.specs.Turns.{Standing, Turn}

@@ -22,7 +22,7 @@ use Rattle.uss_law_dss.proofs.Tests.{same_number, same_bytes, both, some_same}
 use Rattle.uss_law_book.specs.Lists.{Opening}
 use Rattle.uss_law_book.specs.Readings.{opening_of, is_open}
 use Rattle.uss_law_book.proofs.Kept.{opening_has}
-use Rattle.uss_law_duty.specs.Heard.{News, by_reply}
+use Rattle.uss_event.specs.Heard.{News, by_reply}
 use Rattle.uss_law_duty.specs.Answers.{job_of_call, job_named}
 use Rattle.uss_law_duty.specs.Duties.{HearsOnly}
 use Rattle.uss_law_supplier.specs.declared.duties.Awaited.TheVariants as Waits

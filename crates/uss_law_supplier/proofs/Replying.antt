@@ -17,7 +17,7 @@ use Rattle.uss_law_dss.proofs.Tests.{same_number, both, some_same}
 use Rattle.uss_law_book.specs.Lists.{Opening}
 use Rattle.uss_law_book.specs.Readings.{opening_of}
 use Rattle.uss_law_book.proofs.Kept.{opening_has}
-use Rattle.uss_law_duty.specs.Heard.{News}
+use Rattle.uss_event.specs.Heard.{News}
 use Rattle.uss_law_duty.specs.Answers.{flight_of}
 use Rattle.uss_law_duty.specs.Duties.{HearsOnly}
 use Rattle.uss_law_duty.specs.Sayings.{others}

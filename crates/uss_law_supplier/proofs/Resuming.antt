@@ -16,7 +16,7 @@ use Rattle.uss_intent.specs.Texts.{IsOvn}
 use Rattle.uss_intent.specs.States.{is_strategic}
 use Rattle.uss_law_book.specs.Legal.{IsBlind, ArePlans}
 use Rattle.uss_law_book.proofs.Kept.{opening_has}
-use Rattle.uss_law_duty.specs.Heard.{News}
+use Rattle.uss_event.specs.Heard.{News}
 use Rattle.uss_law_duty.specs.Sends.{NotesAreHeld}
 use Rattle.uss_law_supplier.specs.declared.duties.Awaited.TheVariants as Waits
 use Rattle.uss_law_supplier.specs.declared.duties.Duty.TheVariants as Duties

@@ -15,7 +15,7 @@ use Rattle.uss_plan.specs.declared.choice.Choice.TheVariants.{Chosen}
 use Rattle.uss_plan.specs.Choice.{wanted, choice}
 use Rattle.uss_law_book.specs.Lists.{Opening, openings}
 use Rattle.uss_law_book.specs.Attempts.{held}
-use Rattle.uss_law_duty.specs.Heard.{News, kept_pair}
+use Rattle.uss_event.specs.Heard.{News, kept_pair}
 use Rattle.uss_law_duty.specs.Answers.{flight_of}
 use Rattle.uss_law_supplier.specs.Values.{Round}
 use Rattle.uss_law_supplier.specs.Turns.{Standing}

@@ -20,7 +20,7 @@ use Rattle.uss_event.specs.declared.events.Said.TheVariants as Says
 use Rattle.uss_law_dss.specs.Fits.{fits}
 use Rattle.uss_law_book.specs.Lists.{Opening}
 use Rattle.uss_law_book.specs.Readings.{opening_of, is_closed, is_ticket_due}
-use Rattle.uss_law_duty.specs.Heard.{News, by_reply}
+use Rattle.uss_event.specs.Heard.{News, by_reply}
 use Rattle.uss_law_duty.specs.Answers.{job_of_call}
 use Rattle.uss_law_duty.specs.Sends.{ticket_remove}
 use Rattle.uss_law_supplier.specs.Values.{hearing, awaited_of}

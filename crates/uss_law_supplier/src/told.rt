@@ -9,7 +9,7 @@ ghost use Rattle.uss_event.specs.declared.calls.PeerReply.TheVariants as Peers;
 ghost use Rattle.uss_event.specs.declared.entries.Entry.TheVariants as Enters;
 ghost use Rattle.uss_event.specs.declared.events.Event.TheVariants as Comes;
 ghost use Rattle.uss_event.specs.declared.events.Said.TheVariants.{Nothing, Pair, Noted, NotManager};
-ghost use Rattle.uss_law_duty.specs.Heard.{News as Told};
+ghost use Rattle.uss_event.specs.Heard.{News as Told};
 ghost use Rattle.uss_law_duty.specs.Flown.{calls, replies_to};
 ghost use Rattle.uss_law_duty.specs.Worked.{new_book, tried_book, held_book, ending_book, owing_book, flight, ticket_remove, put};
 ghost use Rattle.uss_law_duty.specs.Worked.{the_ticket, planned, notify, notified, subscriber, details_of_other, other_reference};

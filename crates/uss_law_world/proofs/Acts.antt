@@ -42,8 +42,8 @@ use Rattle.uss_law_book.proofs.Kept.{opening_has, open_parts, done_closes}
 use Rattle.uss_law_book.proofs.Attempts.{parts, owner_kept, attempt_kept, trial_has}
 use Rattle.uss_law_book.proofs.Held.{held_of, base_is}
 use Rattle.uss_law_book.proofs.EachOrderly.{legal_is_orderly}
-use Rattle.uss_law_duty.specs.Heard.{News, brought, by_reply, by_pair}
-use Rattle.uss_law_duty.specs.Heard.News.{Heard}
+use Rattle.uss_event.specs.Heard.{News, brought, by_reply, by_pair}
+use Rattle.uss_event.specs.Heard.News.{Heard}
 use Rattle.uss_law_duty.specs.Answers.{flight_of}
 use Rattle.uss_law_duty.specs.Sends.{MayLose, RecordsAreDue, TicketsAreDue, RemovalsAreDue, IsHeldPair, NotesAreHeld, OfDss, OfPeer, ticket_remove}
 use Rattle.uss_law_duty.specs.Entered.{candidate_of, Answers, IsKnown, KeyIsClear, shown_tag, ShowsRecord, HoldsByReply, HeldIsShown, IsRemoved, IsTicketRemoved, EndsByReply, LosesByReply, EndsAs, RemovalIsShown}

@@ -32,7 +32,7 @@ use Rattle.uss_law_dss.specs.Orderly.{IsOrderly}
 use Rattle.uss_law_book.specs.Lists.{Opening, Trial, Holding, Closing, openings, trials, holdings, endings}
 use Rattle.uss_law_book.specs.Readings.{trial_of, is_closed, is_ended}
 use Rattle.uss_law_book.specs.Attempts.{Attempted, attempt_of, extents_of, put_of, recorded_as}
-use Rattle.uss_law_duty.specs.Heard.News.{Heard}
+use Rattle.uss_event.specs.Heard.News.{Heard}
 use Rattle.uss_law_duty.specs.Entered.{candidate_of}
 use Rattle.uss_law_duty.specs.Answers.{is_final, by_trial, by_end}
 use Rattle.uss_law_world.specs.World.{Supplier, Saying, World, supplier_in, book_of, heard_of, name_of}

@@ -29,7 +29,7 @@ use Rattle.uss_law_book.specs.Readings.{trial_of, is_closed}
 use Rattle.uss_law_book.specs.Attempts.{Attempted, attempt_of}
 use Rattle.uss_law_book.proofs.Entries.{opening_stays, trial_stays, closed_by_either}
 use Rattle.uss_law_book.proofs.Attempts.{attempt_kept, trial_kept}
-use Rattle.uss_law_duty.specs.Heard.News.{Heard}
+use Rattle.uss_event.specs.Heard.News.{Heard}
 use Rattle.uss_law_world.specs.World.{Supplier, Saying, World, supplier_in, book_of, heard_of, name_of}
 use Rattle.uss_law_world.specs.World.Post.{Called, Replied, Asked, Answered}
 use Rattle.uss_law_world.specs.Claims.{tag_in, rank_of, IsLandingOf}

@@ -17,7 +17,7 @@ use Rattle.uss_law_dss.specs.Orderly.{IsOrderly}
 use Rattle.uss_law_dss.proofs.Tests.{some_same}
 use Rattle.uss_law_book.specs.Lists.{trials, holdings, endings}
 use Rattle.uss_law_book.specs.Attempts.{attempt_of}
-use Rattle.uss_law_duty.specs.Heard.News.{Heard}
+use Rattle.uss_event.specs.Heard.News.{Heard}
 use Rattle.uss_law_world.specs.World.{Supplier, Post, World, supplier_in, book_in, heard_in, name_in, book_of, heard_of, name_of, post_at, start}
 use Rattle.uss_law_world.specs.World.Post.{Called, Replied, Asked, Answered}
 use Rattle.uss_law_world.specs.Moves.{Move, Arrival, to_one, event_by, arrival_by, arrival_of, fault_by, fault_of, posts_of, restarted, after_step, after_restart, arrives, brings, marked, comes, delivers, takes, next_message, delivers_next, drains, marked_by, stops, loses, happens, run}

@@ -17,7 +17,7 @@ use Rattle.uss_law_book.specs.Coding.{IsOwner, journal_length}
 use Rattle.uss_law_book.specs.Reserve.{need, reserved}
 use Rattle.uss_law_book.specs.Legal.{IsLegal}
 use Rattle.uss_law_book.proofs.Attempts.{parts, trial_has}
-use Rattle.uss_law_duty.specs.Heard.News.{Heard}
+use Rattle.uss_event.specs.Heard.News.{Heard}
 use Rattle.uss_law_world.specs.World.{Supplier, World, supplier_in, book_in, heard_in, new_supplier, start}
 use Rattle.uss_law_world.specs.Free.{AreSuppliers}
 use Rattle.uss_law_world.specs.Invariants.{HasLegalBook}

@@ -14,8 +14,8 @@ use Rattle.uss_law_book.specs.Coding.{journal_length}
 use Rattle.uss_law_book.specs.Readings.{opening_of, is_held, is_done, trial_of, decision_of, holding_of, ending_of, has_ended, is_ticket_open, is_ticket_gone, is_ticket_needed, is_job_of, owed_of, is_told, untold}
 use Rattle.uss_law_book.specs.Reserve.{need, reserved}
 use Rattle.uss_law_book.specs.Legal.{MayRetire, MayFollow}
-use Rattle.uss_law_duty.specs.Heard.{News}
-use Rattle.uss_law_duty.specs.Heard.News.{Heard}
+use Rattle.uss_event.specs.Heard.{News}
+use Rattle.uss_event.specs.Heard.News.{Heard}
 use Rattle.uss_law_duty.specs.Answers.{kept_answer, job_of_request}
 use Rattle.uss_law_duty.specs.Sends.{OfDss, OfPeer, RecordsAreDue, TicketsAreDue, RemovalsAreDue, NotesAreHeld, IsTicketRemoveOf}
 use Rattle.uss_law_duty.specs.Sayings.{PairIsHeld, FinalIsKept, SayingHasCause, IsKeptAnswer}

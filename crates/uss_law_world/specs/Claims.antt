@@ -35,7 +35,7 @@ use Rattle.uss_law_dss.specs.Step.{service_step}
 use Rattle.uss_law_book.specs.Lists.{Opening, Trial, openings, trials}
 use Rattle.uss_law_book.specs.Readings.{is_open, owns, opening_of, open_job_of, has_ended}
 use Rattle.uss_law_book.specs.Attempts.{Attempted, attempt_of, extents_of, recorded_as, held}
-use Rattle.uss_law_duty.specs.Heard.News.{Heard}
+use Rattle.uss_event.specs.Heard.News.{Heard}
 use Rattle.uss_law_duty.specs.Answers.{is_final, job_of_request}
 use Rattle.uss_law_world.specs.World.{World, Saying, book_of, heard_of, name_of}
 use Rattle.uss_law_world.specs.World.Post.{Called, Replied, Asked, Answered}

@@ -21,8 +21,8 @@ use Rattle.uss_event.specs.declared.events.Answer.{Answer}
 use Rattle.uss_event.specs.declared.events.Answer.TheVariants as Answers
 use Rattle.uss_event.specs.declared.events.Said.{Said}
 use Rattle.uss_event.specs.declared.events.Said.TheVariants as Says
-use Rattle.uss_law_duty.specs.Heard.{News}
-use Rattle.uss_law_duty.specs.Heard.News.{Heard}
+use Rattle.uss_event.specs.Heard.{News}
+use Rattle.uss_event.specs.Heard.News.{Heard}
 use Rattle.uss_law_duty.specs.Worked as One
 use Rattle.uss_law_world.specs.World.{Saying}
 use Rattle.uss_law_world.specs.Moves.{Move}

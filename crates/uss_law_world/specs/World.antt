@@ -1,6 +1,7 @@
 -- The world: one discovery service, suppliers, and every message that was ever sent between them. This project's own.
 use Rattle.std.specs.Prelude.{ℕ, zero, suc, ℤ, pos, ◌==◌, List, [], ◌∷◌, map, find, slice_get, Option, Some, None}
 use Rattle.std.specs.Option.{option_map}
+use Rattle.uss_vol4.specs.Volume.{earliest}
 use Rattle.uss_intent.specs.Same.{same_text}
 use Rattle.uss_intent.specs.declared.calls.DssReply.{DssReply}
 use Rattle.uss_event.specs.declared.entries.Owner.{Owner}
@@ -14,7 +15,7 @@ use Rattle.uss_event.specs.declared.calls.Outgoing.{Outgoing}
 use Rattle.uss_event.specs.declared.calls.Outgoing.TheVariants as Goes
 use Rattle.uss_event.specs.declared.events.Said.{Said}
 use Rattle.uss_law_dss.specs.Service.{Service, empty}
-use Rattle.uss_law_duty.specs.Heard.{News}
+use Rattle.uss_event.specs.Heard.{News}
 
 -- a supplier: whose it is, its book, and what it heard since it last started
 pub record Supplier : Type 0 where
@@ -103,4 +104,4 @@ new_supplier owner = record { owner = owner; book = Enters.Owner owner ∷ []; h
 -- the world at first, on 2000-01-01: a new discovery service, these suppliers, and nothing sent
 abbrev pub start : List Owner → World
 start owners =
-    record { service = empty; suppliers = map new_supplier owners; posts = []; delivered = []; lost = []; sayings = []; moment = pos 946684800000000000 }
+    record { service = empty; suppliers = map new_supplier owners; posts = []; delivered = []; lost = []; sayings = []; moment = earliest }

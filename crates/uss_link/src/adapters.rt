@@ -5,7 +5,7 @@ use crate::dial::{Dial, DialFault};
 use crate::sink::{Sink, WriteFault};
 use crate::source::{ReadFault, Source};
 use std::io::{self, Read, Write};
-use std::net::{Net, TcpStream};
+use std::net::{Net, OpenStream, TcpStream};
 use uss_cause::raised;
 
 /// A source over a real reader, as standard input. It tells nothing of the bytes: no contract can say what a
@@ -123,6 +123,14 @@ fn counted<T>(faults: &mut u64, answer: io::Result<T>) -> Result<T, DialFault>
     }
 }
 
+/// Opens a stream, and asks it to send each piece at once: a request goes in two, and the second must not wait until the first is
+/// acknowledged. A stream that refuses this isn't used.
+fn opened<N: Net>(net: &N, host: &str, port: u16) -> io::Result<N::Stream> {
+    let stream = TcpStream::connect(net, (bare(host), port))?;
+    stream.set_nodelay(true)?;
+    Ok(stream)
+}
+
 /// Writes bytes from the front to an open stream.
 fn send_over<W: Write>(stream: &mut Option<W>, bytes: &[u8]) -> io::Result<usize>
     ensures within { IfOk result (λ n. n ≤ length bytes.now) }
@@ -157,7 +165,7 @@ impl<'a, N: Net> Dial for TcpDial<'a, N> {
     ghost is_open = { λ _. None };
 
     fn reach(&mut self, host: &str, port: u16) -> Result<(), DialFault> {
-        let answer = TcpStream::connect(self.net, (bare(host), port));
+        let answer = opened(self.net, host, port);
         let stream = counted(&mut self.faults, answer)?;
         self.stream = Some(stream);
         Ok(())

@@ -6,12 +6,13 @@ use std::{env, io};
 use uss_app::command;
 use uss_link::{ReaderSource, WriterSink};
 
-/// What is told on standard error where the words are no command.
+/// What is written to standard error where the words are no command.
 const USAGE: &str = "usage: uss conflict < SCRIPT
        uss discover < SCRIPT
 
-conflict  compares two lists of volumes, and prints the least pair of places
-          that shares a point of airspace and time, or `clear`
+conflict  compares two lists of volumes, and prints the first pair, one of each
+          list, counted from 0, that shares a point of airspace and time, or
+          `clear`
           lines: a VOLUME, b VOLUME
 discover  carries out calls of a discovery service that begins empty, and
           prints the replies; C is the client's name
@@ -33,12 +34,12 @@ fn words(rt: &HostRuntime) -> io::Result<Vec<String>> {
     Ok(words)
 }
 
-/// Tells on standard error why there is no answer; the status says it too.
+/// Writes to standard error why there is no answer; the status says it too.
 fn explain(rt: &HostRuntime, status: u8) -> io::Result<()> {
     match status {
         2 => eprintln!(rt; "{USAGE}"),
         3 => eprintln!(rt; "uss: a read or a write failed"),
-        4 => eprintln!(rt; "uss: memory is wanting"),
+        4 => eprintln!(rt; "uss: out of memory"),
         _ => Ok(()),
     }
 }

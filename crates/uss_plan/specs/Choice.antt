@@ -9,7 +9,7 @@ use Rattle.uss_event.specs.declared.rules.Verdict.{Verdict}
 use Rattle.uss_event.specs.declared.rules.Verdict.TheVariants.{Clear, EqualForbidden, HigherStands}
 use Rattle.uss_event.specs.Pairs.{OperationalIntent}
 use Rattle.uss_event.specs.Verdicts.{verdict}
-use Rattle.uss_rule.specs.Candidates.{candidate}
+use Rattle.uss_event.specs.Candidates.{candidate}
 use Rattle.uss_plan.specs.declared.choice.Choice.{Choice}
 use Rattle.uss_plan.specs.declared.choice.Choice.TheVariants.{Chosen, Blocked}
 use Rattle.uss_plan.specs.Firsts.{first_passing}

@@ -5,9 +5,8 @@ ghost use Rattle.uss_plan.specs.Times.{are_within};
 ghost use Rattle.uss_plan.specs.Choice.{wanted, is_clear, verdict_on, stands, is_free, choice, IsOf};
 
 use crate::times::{Times, is_apart, times_of};
-use uss_event::{Pair, Proposal, Proposals, RuleTable, Verdict};
+use uss_event::{Pair, Proposal, Proposals, RuleTable, Verdict, verdict_of};
 use uss_intent::{FlightId, State};
-use uss_rule::verdict_of;
 
 /// What comes of a request's alternatives.
 #[derive(Clone, Copy, Debug, PartialEq, Eq)]

@@ -1,4 +1,7 @@
 ghost use Rattle.std.specs.Prelude.{◌≡◌, ◌≤◌, ◌↔◌, IsOk, IfErr};
+ghost use Rattle.uss_intent.specs.Limits.{most_ovns};
+
+use uss_intent::MOST_OVNS;
 
 /// Why nothing is planned.
 #[derive(Clone, Copy, Debug, PartialEq, Eq)]
@@ -20,10 +23,10 @@ impl PlanRefusal {
 
 /// Whether a plan can look at so many references of other flights: at most 1,024. Takes no memory.
 pub fn crowd(count: usize) -> Result<(), PlanRefusal>
-    ensures accepted { IsOk result ↔ (count ≤ 1024) }
+    ensures accepted { IsOk result ↔ (count ≤ most_ovns) }
     ensures refused { IfErr result (λ e. e ≡ PlanRefusal.Crowded count) }
 {
-    if count > 1024 {
+    if count > MOST_OVNS {
         return Err(PlanRefusal::Crowded(count));
     }
     Ok(())

@@ -4,3 +4,6 @@ pub mod Spelled
 pub mod OvnSteps
 pub mod Meaning
 pub mod Routed
+pub mod Walking
+pub mod PatternTable
+pub mod PathRows

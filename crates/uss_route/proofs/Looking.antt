@@ -1,5 +1,5 @@
 -- How the rows of a path and the row of a method are found.
-use Rattle.std.proofs.Common.{◌≡◌, ℕ, suc, ◌+◌, ◌<◌, Bool, true, false, List, [], ◌∷◌, ◌++◌, length, get_or, take, drop, Some, None, Ok, Err, refl, sym, ap, ◌∙◌, arith, cond, add-one, inl, inr, append_assoc, append-nil}
+use Rattle.std.proofs.Common.{◌≡◌, ℕ, suc, ◌+◌, ◌<◌, Bool, true, false, List, [], ◌∷◌, ◌++◌, length, get_or, take, drop, Some, Err, refl, sym, ap, ◌∙◌, arith, cond, add-one, inl, inr, append_assoc, append-nil}
 use Rattle.std.specs.Prelude.{◌⊎◌, ◌&&◌, ◌||◌, ◌==◌, not, codes, bytes_eq, Result, if◌then◌else◌}
 use Rattle.std.specs.List.{filter, flat_map, list_any}
 use Rattle.std.proofs.Math.Seq.{drop-cons, take-suc}
@@ -11,7 +11,7 @@ use Rattle.std.specs.Str.{is_utf8}
 use Rattle.uss_http.specs.declared.refusal.HttpRefusal.{HttpRefusal}
 use Rattle.uss_http.specs.declared.refusal.HttpRefusal.TheVariants as refusal
 use Rattle.uss_route.specs.declared.found.Route.{Route}
-use Rattle.uss_route.specs.Routes.{fits, is_served, is_written_out, rows_at, with_method, is_tagged, untagged, without_query, refused, route_at, route_by, route_on, route_of}
+use Rattle.uss_route.specs.Routes.{fits, is_served, is_written_out, rows_at, with_method, without_query, route_on, route_of}
 
 pub both_left : (a b : Bool) → (a && b) ≡ true → a ≡ true
 both_left true b e = refl
@@ -67,28 +67,6 @@ any_by p q rows false later = later
 pub any_kept : (p : RouteRow → Bool) (rows : List RouteRow) → list_any p rows ≡ not (length (filter p rows) == 0)
 any_kept p [] = refl
 any_kept p (q ∷ rows) = any_by p q rows (p q) (any_kept p rows)
-
--- the rows of a path, by those for which it is written out
-pub rows_written : (tagged : Bool) (path : List ℕ) → (length (filter (is_written_out tagged path) all_rows) == 0) ≡ false → rows_at tagged path ≡ filter (is_written_out tagged path) all_rows
-rows_written tagged path some = ap (λ (t : Bool). if t then filter (is_written_out tagged path) all_rows else filter (is_served tagged path) all_rows) (any_kept (is_written_out tagged path) all_rows ∙ ap not some)
-
-pub rows_served : (tagged : Bool) (path : List ℕ) → (length (filter (is_written_out tagged path) all_rows) == 0) ≡ true → rows_at tagged path ≡ filter (is_served tagged path) all_rows
-rows_served tagged path none = ap (λ (t : Bool). if t then filter (is_written_out tagged path) all_rows else filter (is_served tagged path) all_rows) (any_kept (is_written_out tagged path) all_rows ∙ ap not none)
-
--- the rows of a path that may be behind a tag
-rows_are : (path inner : List ℕ) (tagged : Bool) (rows : List RouteRow) → tagged ≡ is_tagged path → inner ≡ untagged path → rows ≡ rows_at tagged inner → rows ≡ rows_at (is_tagged path) (untagged path)
-rows_are path inner tagged rows t i r = r ∙ ap (λ (b : Bool). rows_at b inner) t ∙ ap (λ (p : List ℕ). rows_at (is_tagged path) p) i
-
--- no row has the method
-pub no_row : (method path inner : List ℕ) (tagged : Bool) (rows : List RouteRow) (e : HttpRefusal) → tagged ≡ is_tagged path → inner ≡ untagged path → rows ≡ rows_at tagged inner → with_method method rows ≡ None → (e ≡ refusal.Memory) ⊎ (e ≡ refused rows) → ◌≡◌ {A = Result Route HttpRefusal} (Err e) (Err refusal.Memory) ⊎ ◌≡◌ {A = Result Route HttpRefusal} (Err e) (route_on method path)
-no_row method path inner tagged rows e t i r n (inl m) = inl (ap Err m)
-no_row method path inner tagged rows e t i r n (inr m) =
-    inr (ap Err m ∙ sym (ap (λ (rs : List RouteRow). route_by (untagged path) rs (with_method method rs)) (sym (rows_are path inner tagged rows t i r)) ∙ ap (route_by (untagged path) rows) n))
-
--- this row has it
-pub this_row : (method path inner : List ℕ) (tagged : Bool) (rows : List RouteRow) (row : RouteRow) (route : Route) → tagged ≡ is_tagged path → inner ≡ untagged path → rows ≡ rows_at tagged inner → with_method method rows ≡ Some row → route ≡ route_at inner row → ◌≡◌ {A = Result Route HttpRefusal} (Ok route) (Err refusal.Memory) ⊎ ◌≡◌ {A = Result Route HttpRefusal} (Ok route) (route_on method path)
-this_row method path inner tagged rows row route t i r n is =
-    inr (ap Ok (is ∙ ap (λ (p : List ℕ). route_at p row) i) ∙ sym (ap (λ (rs : List RouteRow). route_by (untagged path) rs (with_method method rs)) (sym (rows_are path inner tagged rows t i r)) ∙ ap (route_by (untagged path) rows) n))
 
 -- the path of a target
 pub whole_route : (method target path : List ℕ) (answer : Result Route HttpRefusal) → path ≡ without_query target → is_utf8 path ≡ true → (answer ≡ Err refusal.Memory) ⊎ (answer ≡ route_on method path) → (answer ≡ Err refusal.Memory) ⊎ (answer ≡ route_of method target)

@@ -106,12 +106,12 @@ no_tag row.Positions rest = refl
 no_tag row.Sweeps rest = refl
 
 -- the slashes in the bytes
-abbrev slashes : List ℕ → ℕ
+abbrev pub slashes : List ℕ → ℕ
 slashes [] = 0
 slashes (b ∷ bytes) = cond (b == 47) (1 + slashes bytes) (slashes bytes)
 
 -- two rows whose texts and slashes may be those of one path
-abbrev meet : RouteRow → RouteRow → Bool
+abbrev pub meet : RouteRow → RouteRow → Bool
 meet r q =
     bytes_eq (take (length (text_of q)) (text_of r)) (take (length (text_of r)) (text_of q)) && (slashes (text_of r) + count_of r == slashes (text_of q) + count_of q)
 
@@ -208,10 +208,10 @@ fronts (d ∷ a) x (c ∷ b) y e =
     let tail : a ++ x ≡ b ++ y = cc in
     ap (λ (h : ℕ). h ∷ take (length b) a) head ∙ ap (λ (l : List ℕ). c ∷ l) (fronts a x b y tail)
 
-same_number : (n m : ℕ) → n ≡ m → (n == m) ≡ true
+pub same_number : (n m : ℕ) → n ≡ m → (n == m) ≡ true
 same_number n m e = grind (arith, nat_tests)
 
-meeting : (r q : RouteRow) (ps qs : List (List ℕ)) (path : List ℕ) → IsPathOf r ps path → IsPathOf q qs path → meet r q ≡ true
+pub meeting : (r q : RouteRow) (ps qs : List (List ℕ)) (path : List ℕ) → IsPathOf r ps path → IsPathOf q qs path → meet r q ≡ true
 meeting r q ps qs path is other =
     let front = fronts (text_of r) (parameters_text ps) (text_of q) (parameters_text qs) (sym is.spelled ∙ other.spelled) in
     let count = sym (slashes_path r ps path is) ∙ slashes_path q qs path other in

@@ -26,7 +26,7 @@ use Rattle.uss_route.proofs.Meaning.{rank, row_begins, no_tag, in_table, any_fro
 -- ---- with a tag and without
 
 -- the path behind the tag is one of the row, and the row may stand behind one
-record IsPlaced (row : RouteRow) (parameters : List (List ℕ)) (path : List ℕ) : Type 0 where
+pub record IsPlaced (row : RouteRow) (parameters : List (List ℕ)) (path : List ℕ) : Type 0 where
   pub place : IsPathOf row parameters (untagged path)
   pub may : (is_of_a_supplier row || not (is_tagged path)) ≡ true
 
@@ -45,7 +45,7 @@ plain r ps path is =
 tag_is : (tag rest : List ℕ) → IsParameter tag → begins rest → tag_of (codes "/a/" ++ (tag ++ rest)) ≡ tag
 tag_is tag rest is begin = segment_in_front tag rest is.free begin
 
-is_tagged_here : (tag rest : List ℕ) → IsParameter tag → begins rest → is_tagged (codes "/a/" ++ (tag ++ rest)) ≡ true
+pub is_tagged_here : (tag rest : List ℕ) → IsParameter tag → begins rest → is_tagged (codes "/a/" ++ (tag ++ rest)) ≡ true
 is_tagged_here tag rest is begin = ap (λ (t : List ℕ). nat_lt 0 (length t)) (tag_is tag rest is begin) ∙ some_length tag is.some
 
 untagged_here : (tag rest : List ℕ) → IsParameter tag → begins rest → untagged (codes "/a/" ++ (tag ++ rest)) ≡ rest
@@ -56,7 +56,7 @@ untagged_here tag rest is begin =
     ∙ drop-append-add (codes "/a/") (tag ++ rest) (length tag)
     ∙ behind_front tag rest
 
-path_begins : (r : RouteRow) (ps : List (List ℕ)) (path : List ℕ) → IsPathOf r ps path → begins path
+pub path_begins : (r : RouteRow) (ps : List (List ℕ)) (path : List ℕ) → IsPathOf r ps path → begins path
 path_begins r ps path is = subst begins (sym is.spelled) (row_begins r (parameters_text ps))
 
 placed_tagged : (r : RouteRow) (ps : List (List ℕ)) (path : List ℕ) → (b : IsBehindTag r ps path) → IsPlaced r ps path
@@ -67,7 +67,7 @@ placed_tagged r ps path b =
       may = or_left (is_of_a_supplier r) (not (is_tagged path)) b.supplier;
     }
 
-placed : (r : RouteRow) (ps : List (List ℕ)) (path : List ℕ) → IsServed r ps path → IsPlaced r ps path
+pub placed : (r : RouteRow) (ps : List (List ℕ)) (path : List ℕ) → IsServed r ps path → IsPlaced r ps path
 placed r ps path (inl is) =
     record {
       place = subst (IsPathOf r ps) (sym (untagged_by path false (plain r ps path is))) is;
@@ -94,7 +94,7 @@ untagged_rest path front is =
     ∙ ap (drop (3 + length tag)) (whole path front)
     ∙ drop-append-add (codes "/a/") (drop 3 path) (length tag)
 
-supplier_by : (a t : Bool) → t ≡ true → (a || not t) ≡ true → a ≡ true
+pub supplier_by : (a t : Bool) → t ≡ true → (a || not t) ≡ true → a ≡ true
 supplier_by true t is e = refl
 supplier_by false true is e = e
 supplier_by false false is e = absurd (cc)
@@ -120,16 +120,16 @@ served r ps path p = served_by r ps path (is_tagged path) refl p
 
 -- ---- the tests
 
-abbrev served_at : List ℕ → RouteRow → Bool
+abbrev pub served_at : List ℕ → RouteRow → Bool
 served_at path r = is_served (is_tagged path) (untagged path) r
 
-abbrev written_at : List ℕ → RouteRow → Bool
+abbrev pub written_at : List ℕ → RouteRow → Bool
 written_at path r = is_written_out (is_tagged path) (untagged path) r
 
-abbrev written : List ℕ → Bool
+abbrev pub written : List ℕ → Bool
 written path = list_any (written_at path) all_rows
 
-abbrev meant_at : List ℕ → RouteRow → Bool
+abbrev pub meant_at : List ℕ → RouteRow → Bool
 meant_at path r = served_at path r && ((count_of r == 0) || not (written path))
 
 served_yes : (path : List ℕ) (r : RouteRow) → served_at path r ≡ true → (ps : List (List ℕ)) × IsServed r ps path
@@ -142,11 +142,11 @@ served_test path r ps is =
     let p = placed r ps path is in
     and_from (fits r (untagged path)) (is_of_a_supplier r || not (is_tagged path)) (fits_spelled r (untagged path) ps p.place) p.may
 
-no_items : (ps : List (List ℕ)) → length ps ≡ 0 → ps ≡ []
+pub no_items : (ps : List (List ℕ)) → length ps ≡ 0 → ps ≡ []
 no_items [] e = refl
 no_items (p ∷ ps) e = absurd (omega (arith, e))
 
-zero_from : (n : ℕ) → (n == 0) ≡ true → n ≡ 0
+pub zero_from : (n : ℕ) → (n == 0) ≡ true → n ≡ 0
 zero_from n e = grind (arith, nat_tests)
 
 zero_is : (n : ℕ) → n ≡ 0 → (n == 0) ≡ true
@@ -175,7 +175,7 @@ written_any path e = let w = any_gives (written_at path) all_rows e in (w.0, wri
 or_not : (a t : Bool) → t ≡ true → (a || not t) ≡ true → a ≡ true
 or_not a t is e = supplier_by a t is e
 
-meant_yes : (path : List ℕ) (r : RouteRow) → meant_at path r ≡ true → (ps : List (List ℕ)) × IsMeant r ps path
+pub meant_yes : (path : List ℕ) (r : RouteRow) → meant_at path r ≡ true → (ps : List (List ℕ)) × IsMeant r ps path
 meant_yes path r e =
     let s = served_yes path r (both_left (served_at path r) ((count_of r == 0) || not (written path)) e) in
     let o = both_right (served_at path r) ((count_of r == 0) || not (written path)) e in
@@ -185,7 +185,7 @@ first_by : (path : List ℕ) (c t : Bool) → written path ≡ t → (IsWrittenO
 first_by path c true e is = or_left c false (is (written_any path e))
 first_by path c false e is = or_right c true refl
 
-meant_test : (path : List ℕ) (r : RouteRow) (ps : List (List ℕ)) → IsMeant r ps path → meant_at path r ≡ true
+pub meant_test : (path : List ℕ) (r : RouteRow) (ps : List (List ℕ)) → IsMeant r ps path → meant_at path r ≡ true
 meant_test path r ps is =
     and_from (served_at path r) ((count_of r == 0) || not (written path)) (served_test path r ps is.served) (first_by path (count_of r == 0) (written path) refl (λ w. count_none path r ps is.served (is.first w)))
 
@@ -207,16 +207,16 @@ rows_by : (s : RouteRow → Bool) (t : Bool) → (if t then filter (λ r. (count
 rows_by s true = filter_agree (λ r. (count_of r == 0) && s r) (λ r. s r && ((count_of r == 0) || false)) (λ r. swap_true (count_of r == 0) (s r)) all_rows
 rows_by s false = filter_agree s (λ r. s r && ((count_of r == 0) || true)) (λ r. swap_false (count_of r == 0) (s r)) all_rows
 
-rows_here : (path : List ℕ) → rows_at (is_tagged path) (untagged path) ≡ filter (meant_at path) all_rows
+pub rows_here : (path : List ℕ) → rows_at (is_tagged path) (untagged path) ≡ filter (meant_at path) all_rows
 rows_here path = rows_by (served_at path) (written path)
 
-abbrev rows_meant : List ℕ → List RouteRow
+abbrev pub rows_meant : List ℕ → List RouteRow
 rows_meant path = filter (meant_at path) all_rows
 
 route_here : (method path : List ℕ) → route_on method path ≡ route_by (untagged path) (rows_meant path) (with_method method (rows_meant path))
 route_here method path = ap (λ (rs : List RouteRow). route_by (untagged path) rs (with_method method rs)) (rows_here path)
 
-same_tests : (a b : Bool) (P : Type 0) → (a ≡ true → P) → (P → a ≡ true) → (b ≡ true → P) → (P → b ≡ true) → a ≡ b
+pub same_tests : (a b : Bool) (P : Type 0) → (a ≡ true → P) → (P → a ≡ true) → (b ≡ true → P) → (P → b ≡ true) → a ≡ b
 same_tests true b P f g h k = sym (k (f refl))
 same_tests false true P f g h k = g (h refl)
 same_tests false false P f g h k = refl

@@ -15,7 +15,7 @@ use Rattle.uss_route.proofs.Looking.{both_left, both_right}
 abbrev pub NoSlash : ℕ → Type 0
 NoSlash b = (b == 47) ≡ false
 
-is_slash : (b : ℕ) → (b == 47) ≡ true → b ≡ 47
+pub is_slash : (b : ℕ) → (b == 47) ≡ true → b ≡ 47
 is_slash b e = grind (arith, nat_tests)
 
 -- the first segment and what stands behind it

@@ -1,4 +1,4 @@
--- How an OVN stands in a path: percent-encoding after RFC 3986, section 2.1; which bytes are written as they are is this project's own.
+-- How an OVN is written in a path: percent-encoding after RFC 3986, section 2.1; which bytes are written as they are is this project's own.
 use Rattle.std.specs.Prelude.{ℕ, ◌+◌, ◌/◌, ◌%◌, ◌==◌, nat_lt, nat_le, Bool, true, not, ◌&&◌, ◌||◌, List, [], ◌∷◌, length, take, if◌then◌else◌}
 use Rattle.std.specs.List.{flat_map, list_all}
 use Rattle.std.specs.Char.{is_ascii_alphanumeric, is_ascii_hexdigit}
@@ -21,11 +21,11 @@ segment_of_byte b = if is_plain b then b ∷ [] else 37 ∷ upper_digit (b / 16)
 abbrev pub segment_of : List ℕ → List ℕ
 segment_of ovn = flat_map segment_of_byte ovn
 
--- two hexadecimal digits stand at the front
+-- the bytes begin with two hexadecimal digits
 abbrev pub begins_with_digits : List ℕ → Bool
 begins_with_digits bytes = nat_le 2 (length bytes) && list_all is_ascii_hexdigit (take 2 bytes)
 
--- two hexadecimal digits stand behind each `%`
+-- two hexadecimal digits come after each `%`
 abbrev pub is_escaped : List ℕ → Bool
 is_escaped [] = true
 is_escaped (b ∷ bytes) = (not (b == 37) || begins_with_digits bytes) && is_escaped bytes

@@ -20,11 +20,11 @@ without_query target = before 63 target
 abbrev pub segment : List ℕ → List ℕ
 segment bytes = before 47 bytes
 
--- the tag behind `/a/`, and nothing where there is none
+-- the tag after `/a/`, and nothing where there is none
 abbrev pub tag_of : List ℕ → List ℕ
 tag_of path = if bytes_eq (take 3 path) (codes "/a/") then segment (drop 3 path) else []
 
--- a path behind a tag
+-- a path after a tag
 abbrev pub is_tagged : List ℕ → Bool
 is_tagged path = nat_lt 0 (length (tag_of path))
 
@@ -36,7 +36,7 @@ untagged path = if is_tagged path then drop (3 + length (tag_of path)) path else
 abbrev pub first_segment : List ℕ → List ℕ
 first_segment bytes = segment (drop 1 bytes)
 
--- what stands behind these two
+-- what comes after these two
 abbrev pub behind_segment : List ℕ → List ℕ
 behind_segment bytes = drop (1 + length (first_segment bytes)) bytes
 
@@ -46,11 +46,11 @@ are_parameters zero bytes = length bytes == 0
 are_parameters (suc n) bytes =
     bytes_eq (take 1 bytes) (codes "/") && nat_lt 0 (length (first_segment bytes)) && are_parameters n (behind_segment bytes)
 
--- the bytes behind the text of a row
+-- the bytes after the text of a row
 abbrev pub behind_text : RouteRow → List ℕ → List ℕ
 behind_text row path = drop (length (text_of row)) path
 
--- a path of this row: its text, and behind it as many parameters as the row has
+-- a path of this row: its text, and after it as many parameters as the row has
 abbrev pub fits : RouteRow → List ℕ → Bool
 fits row path = bytes_eq (take (length (text_of row)) path) (text_of row) && are_parameters (count_of row) (behind_text row path)
 
@@ -61,7 +61,7 @@ first_of row path = if nat_lt 0 (count_of row) then first_segment (behind_text r
 abbrev pub second_of : RouteRow → List ℕ → List ℕ
 second_of row path = if nat_lt 1 (count_of row) then first_segment (behind_segment (behind_text row path)) else []
 
--- the row is served at this path; behind a tag only those of a supplier are
+-- the row is served at this path; after a tag only those of a supplier are
 abbrev pub is_served : Bool → List ℕ → RouteRow → Bool
 is_served tagged path row = fits row path && (is_of_a_supplier row || not tagged)
 
@@ -90,7 +90,7 @@ abbrev pub refused : List RouteRow → HttpRefusal
 refused [] = refusal.NoRoute
 refused (row ∷ rows) = refusal.WrongMethod (joined (row ∷ rows))
 
--- the route of this row, with the parameters as they stand
+-- the route of this row, with the parameters as they are in the path
 abbrev pub route_at : List ℕ → RouteRow → Route
 route_at path row = record { row = row; first = first_of row path; second = second_of row path }
 

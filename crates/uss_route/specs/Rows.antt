@@ -1,5 +1,5 @@
 -- The table of methods and paths: ASTM F3548-21, annex A4, for the discovery service and for the details of intents; this
--- project's own for the operators. A path is a text that is written out and behind it a number of parameters, each behind a
+-- project's own for the operators. A path is a text that is written out and after it a number of parameters, each after a
 -- slash: an identifier, an OVN or a version.
 use Rattle.std.specs.Prelude.{ℕ, Bool, true, false, List, [], ◌∷◌, codes}
 use Rattle.uss_route.specs.declared.rows.RouteRow.{RouteRow}
@@ -42,7 +42,7 @@ text_of row.Cancels = codes "/operator/v1/cancels"
 text_of row.Positions = codes "/operator/v1/positions"
 text_of row.Sweeps = codes "/operator/v1/sweeps"
 
--- how many parameters stand behind the text
+-- how many parameters come after the text
 abbrev pub count_of : RouteRow → ℕ
 count_of row.DssQuery = 0
 count_of row.DssGet = 1
@@ -61,7 +61,7 @@ count_of row.Cancels = 0
 count_of row.Positions = 0
 count_of row.Sweeps = 0
 
--- the events of a supplier, whose paths are served behind `/a/` and a tag too
+-- the events of a supplier, whose paths are served after `/a/` and a tag too
 abbrev pub is_of_a_supplier : RouteRow → Bool
 is_of_a_supplier row.DssQuery = false
 is_of_a_supplier row.DssGet = false

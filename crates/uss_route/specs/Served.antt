@@ -9,7 +9,7 @@ use Rattle.uss_route.specs.Spelling.{IsParameter, IsPathOf}
 abbrev pub HasNoQuery : List ℕ → Type 0
 HasNoQuery bytes = All (λ b. (b == 63) ≡ false) bytes
 
--- the path is `/a/`, a tag, and behind it a path of an event of a supplier
+-- the path is `/a/`, a tag, and after it a path of an event of a supplier
 pub record IsBehindTag (row : RouteRow) (parameters : List (List ℕ)) (path : List ℕ) : Type 0 where
   pub supplier : is_of_a_supplier row ≡ true
   pub tag : List ℕ

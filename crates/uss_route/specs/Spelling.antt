@@ -9,7 +9,7 @@ pub record IsParameter (bytes : List ℕ) : Type 0 where
   pub some : 0 < length bytes
   pub free : All (λ b. (b == 47) ≡ false) bytes
 
--- each parameter behind a slash
+-- each parameter after a slash
 abbrev pub parameters_text : List (List ℕ) → List ℕ
 parameters_text parameters = flat_map (λ p. 47 ∷ p) parameters
 

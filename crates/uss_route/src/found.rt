@@ -1,7 +1,7 @@
 use crate::rows::RouteRow;
 use uss_http::Bytes;
 
-/// A route: its row, and the parameters of the path as they stand, empty where there is none.
+/// A route: its row, and the parameters of the path as they are in it, empty where there is none.
 #[derive(Debug, Drop)]
 pub struct Route {
     /// The call or the event.

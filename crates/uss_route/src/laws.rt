@@ -12,8 +12,8 @@ ghost use Rattle.uss_route.specs.Ovns.{segment_of, is_plain, is_ovn_segment};
 ghost use Rattle.uss_route.specs.Spelling.{IsParameter, IsPathOf};
 ghost use Rattle.uss_route.specs.Served.{HasNoQuery, IsServed, IsWrittenOut, IsMeant, AreRowsOf, route_with};
 
-/// A row has exactly the paths that are its text and behind it as many parameters as it has, each behind a slash, not empty
-/// and without a slash; and its parameters are these. The function does nothing: its contract carries the law.
+/// A row has exactly the paths that are its text followed by as many parameters as it has, each after a slash, not empty and
+/// without a slash; and its parameters are these. The function does nothing: its contract carries the law.
 pub fn paths_are_texts_and_parameters()
     ensures fits { (row : RouteRow) (path : List ℕ) → (fits row path ≡ true) ↔ ((parameters : List (List ℕ)) × IsPathOf row parameters path) }
     ensures parameters { (row : RouteRow) (path : List ℕ) (parameters : List (List ℕ)) → IsPathOf row parameters path → (first_of row path ≡ get_or parameters 0 []) × (second_of row path ≡ get_or parameters 1 []) }
@@ -27,8 +27,8 @@ pub fn ovns_are_read_again()
     ensures bytes { (ovn : List ℕ) → IsOvn ovn → All (λ b. (is_plain b || (b == 37)) ≡ true) (segment_of ovn) }
 {}
 
-/// What is written as a path of a row is routed to that row, with the parameters that were written: the text of the row, its
-/// parameters behind it, UTF-8 and without a `?`. Where a row without parameters has the same path, it is the one that is
+/// What is written as a path of a row is routed to that row, with the parameters that were written: the text of the row,
+/// its parameters after it, UTF-8 and without a `?`. Where a row without parameters has the same path, it is the one that is
 /// meant. A query changes nothing. The function does nothing: its contract carries the law.
 pub fn written_paths_are_routed()
     ensures route { (row : RouteRow) (parameters : List (List ℕ)) (path : List ℕ) → IsPathOf row parameters path → (IsWrittenOut path → parameters ≡ []) → is_utf8 path ≡ true → HasNoQuery path → route_of (method_of row) path ≡ Ok (route_with row parameters) }

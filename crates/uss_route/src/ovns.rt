@@ -9,7 +9,7 @@ use percent_encoding::{AsciiSet, NON_ALPHANUMERIC, ascii_set, percent_decode, pe
 use std::alloc::{AllocError, Global};
 use uss_intent::{IntentRefusal, Ovn};
 
-/// The ASCII bytes that don't stand in a written path as they are: all but letters, digits, `-`, `.`, `_` and `~`.
+/// The ASCII bytes that aren't written in a path as they are: all but letters, digits, `-`, `.`, `_` and `~`.
 const ESCAPED: AsciiSet = ascii_set!(
     NON_ALPHANUMERIC
         .remove(b'-')
@@ -25,14 +25,14 @@ fn are_digits(bytes: &[u8]) -> bool
     bytes.iter().all(|b| b.is_ascii_hexdigit())
 }
 
-/// Whether two hexadecimal digits stand at the front.
+/// Whether the bytes begin with two hexadecimal digits.
 fn begins_with_digits(bytes: &[u8]) -> bool
     ensures { result ≡ spec.begins_with_digits bytes.now }
 {
     2 <= bytes.len() && are_digits(&bytes[..2])
 }
 
-/// Whether two hexadecimal digits stand behind each `%`.
+/// Whether two hexadecimal digits come after each `%`.
 fn is_escaped(segment: &[u8]) -> bool
     ensures { result ≡ spec.is_escaped segment.now }
 {
@@ -47,7 +47,7 @@ fn is_escaped(segment: &[u8]) -> bool
 }
 
 /// The OVN that a parameter of a path stands for: `%` and two hexadecimal digits for that byte, each other byte for itself. It
-/// is none, which is 130, where a `%` stands before anything else and where the bytes aren't an OVN.
+/// is none, which is 130, where a `%` comes before anything else and where the bytes aren't an OVN.
 pub fn ovn_of_segment(alloc: Global, segment: &[u8]) -> Result<Ovn, IntentRefusal>
     ensures value { IfOk result (λ ovn. ovn ≡ percent.percent_decode segment.now) }
     ensures ok { OnOk result (is_ovn_segment segment.now ≡ true) }

@@ -1,6 +1,6 @@
 ghost use Rattle.std.specs.Prelude.{◌≡◌, ◌+◌, ◌≤◌, ℕ, true, false, length, take, drop, codes, bytes_eq, nat_lt, ◌&&◌, MatchOption};
 ghost use Rattle.uss_route.specs.Routes as spec;
-ghost use Rattle.uss_route.specs.Routes.{first_segment, behind_segment, are_parameters, fits, first_of, second_of, tag_of, is_tagged};
+ghost use Rattle.uss_route.specs.Routes.{first_segment, behind_segment, are_parameters, fits, first_of, second_of, tag_of};
 
 use crate::rows::RouteRow;
 
@@ -23,7 +23,7 @@ pub(crate) fn before(bytes: &[u8], separator: u8) -> &[u8]
     &bytes[..length_before(bytes, separator)]
 }
 
-/// A slash and a segment at the front, and what stands behind them.
+/// A slash and the segment after it at the beginning, and what comes after them.
 fn split_segment(bytes: &[u8]) -> Option<(&[u8], &[u8])>
     ensures { MatchOption result ((bytes_eq (take 1 bytes.now) (codes "/") && nat_lt 0 (length (first_segment bytes.now))) ≡ false) (λ parts. ((bytes_eq (take 1 bytes.now) (codes "/") && nat_lt 0 (length (first_segment bytes.now))) ≡ true) × (parts.0.now ≡ first_segment bytes.now) × (parts.1.now ≡ behind_segment bytes.now)) }
 {
@@ -85,7 +85,7 @@ pub(crate) fn parameters<'p>(row: RouteRow, path: &'p [u8]) -> Option<(&'p [u8],
     }
 }
 
-/// The tag behind `/a/`, and nothing where there is none.
+/// The tag after `/a/`, and nothing where there is none.
 fn tag(path: &[u8]) -> &[u8]
     ensures value { result.now ≡ tag_of path.now }
     ensures within { nat_lt 0 (length result.now) ≡ true → 3 + length result.now ≤ length path.now }
@@ -96,15 +96,14 @@ fn tag(path: &[u8]) -> &[u8]
     }
 }
 
-/// Whether the path is behind `/a/` and a tag, and what of it stands behind these.
-pub(crate) fn untagged(path: &[u8]) -> (bool, &[u8])
-    ensures tagged { result.0 ≡ is_tagged path.now }
-    ensures path { result.1.now ≡ spec.untagged path.now }
+/// The path without `/a/` and the tag, where it has one.
+pub(crate) fn untagged(path: &[u8]) -> &[u8]
+    ensures { result.now ≡ spec.untagged path.now }
 {
     let tag = tag(path);
     if tag.is_empty() {
-        (false, path)
+        path
     } else {
-        (true, &path[3 + tag.len()..])
+        &path[3 + tag.len()..]
     }
 }

@@ -101,7 +101,7 @@ impl RouteRow {
         }
     }
 
-    /// How many parameters stand behind the text.
+    /// How many parameters come after the text.
     pub fn parameters(self) -> usize
         ensures { result ≡ count_of self }
     {
@@ -125,7 +125,7 @@ impl RouteRow {
         }
     }
 
-    /// Whether it is an event of a supplier, whose path is served behind a tag too.
+    /// Whether it is an event of a supplier, whose path is served after a tag too.
     pub fn is_of_a_supplier(self) -> bool
         ensures { result ≡ is_of_a_supplier self }
     {

@@ -3,7 +3,7 @@ use Rattle.std.proofs.Common.{◌≡◌, ℕ, ◌+◌, ◌<◌, ◌≤◌, List,
 use Rattle.uss_text.specs.declared.refusal.WordRefusal.{WordRefusal}
 use Rattle.uss_text.specs.declared.refusal.ScriptRefusal.{ScriptRefusal}
 use Rattle.uss_text.specs.declared.refusal.ScriptRefusal.TheVariants.{TextTooLarge}
-use Rattle.uss_text.specs.Lines.{lines_of}
+use Rattle.uss_text.specs.Lines.{most_bytes, lines_of}
 use Rattle.uss_text.specs.Refusals.{at_line, refusal_at}
 use Rattle.uss_text.specs.Reading.{◌>>=◌, each_behind}
 use Rattle.uss_text.specs.Discover.{discover_line, discover_script}
@@ -52,10 +52,10 @@ module _ {A : Type 0} (line_of : List ℕ → Result A WordRefusal) where
   pub end_with : (all : Result (List A) ScriptRefusal) (n : ℕ) (left : List (List ℕ)) (xs : List A) → SoFar all (each_behind line_of n left) xs → left ≡ [] → all ≡ Ok xs
   end_with all n left xs so_far none = so_far.is ∙ ap (λ (ls : List (List ℕ)). in_front xs (each_behind line_of n ls)) none ∙ none_left n xs
 
-pub too_large : (text : List ℕ) → 67108864 < length text → discover_script text ≡ Err TextTooLarge
+pub too_large : (text : List ℕ) → most_bytes < length text → discover_script text ≡ Err TextTooLarge
 unfolding discover_script
-too_large text h = rw (lt_true 67108864 (length text) h) refl
+too_large text h = rw (lt_true most_bytes (length text) h) refl
 
-pub small_enough : (text : List ℕ) → length text ≤ 67108864 → discover_script text ≡ each_behind discover_line 0 (lines_of text)
+pub small_enough : (text : List ℕ) → length text ≤ most_bytes → discover_script text ≡ each_behind discover_line 0 (lines_of text)
 unfolding discover_script
-small_enough text h = rw (lt_false 67108864 (length text) h) refl
+small_enough text h = rw (lt_false most_bytes (length text) h) refl

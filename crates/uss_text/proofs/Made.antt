@@ -15,7 +15,8 @@ use Rattle.uss_vol4.specs.Volume.{Volume4D, IsVolume, InAltitude, InTime}
 use Rattle.uss_vol4.specs.Refusal as vol
 use Rattle.uss_vol4.specs.declared.VolRefusal.{VolRefusal}
 use Rattle.uss_vol4.specs.declared.VolRefusal.TheVariants as Vol
-use Rattle.uss_text.specs.Volumes.{volume_of, outline_refusal, volume_refusal, is_in_plane, is_altitude, is_instant}
+use Rattle.uss_text.specs.Volumes.{volume_of, outline_refusal, volume_refusal}
+use Rattle.uss_vol4.specs.Ranges.{is_in_plane, is_altitude, is_instant}
 
 -- ---- tests on numbers
 pub lt_true : (m n : ℕ) → m < n → nat_lt m n ≡ true

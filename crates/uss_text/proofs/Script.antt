@@ -10,7 +10,7 @@ use Rattle.uss_text.specs.declared.conflict.Side.TheVariants.{A, B}
 use Rattle.uss_text.specs.declared.refusal.WordRefusal.TheVariants.{Memory as WordMemory}
 use Rattle.uss_text.specs.declared.refusal.ScriptRefusal.TheVariants.{Memory as ScriptMemory, TextTooLarge}
 use Rattle.uss_text.proofs.Made.{lt_true, lt_false}
-use Rattle.uss_text.specs.Lines.{lines_of, onto_first}
+use Rattle.uss_text.specs.Lines.{most_bytes, lines_of, onto_first}
 use Rattle.uss_text.specs.Refusals.{at_line, refusal_at}
 use Rattle.uss_text.specs.Reading.{◌>>=◌}
 use Rattle.uss_text.specs.Conflict.{Lists, lists, onto_side, with_first, behind_side, with_last, conflict_line, lists_behind, conflict_script}
@@ -77,10 +77,10 @@ end_from all n left ls so_far none = end_with all n ls (let P : List (List ℕ) 
 pub word_real : (n : ℕ) (e : WordRefusal) (r : ScriptRefusal) → r ≡ refusal_at n e → (r ≡ ScriptMemory → ⊥) → e ≡ WordMemory → ⊥
 word_real n e r is real memory = real (is ∙ ap (refusal_at n) memory)
 
-pub too_large : (text : List ℕ) → 67108864 < length text → conflict_script text ≡ Err TextTooLarge
+pub too_large : (text : List ℕ) → most_bytes < length text → conflict_script text ≡ Err TextTooLarge
 unfolding conflict_script
-too_large text h = rw (lt_true 67108864 (length text) h) refl
+too_large text h = rw (lt_true most_bytes (length text) h) refl
 
-pub small_enough : (text : List ℕ) → length text ≤ 67108864 → conflict_script text ≡ lists_behind 0 (lines_of text)
+pub small_enough : (text : List ℕ) → length text ≤ most_bytes → conflict_script text ≡ lists_behind 0 (lines_of text)
 unfolding conflict_script
-small_enough text h = rw (lt_false 67108864 (length text) h) refl
+small_enough text h = rw (lt_false most_bytes (length text) h) refl

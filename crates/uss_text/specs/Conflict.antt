@@ -8,7 +8,7 @@ use Rattle.uss_text.specs.declared.refusal.ScriptRefusal.TheVariants.{TextTooLar
 use Rattle.uss_text.specs.declared.conflict.Placed.{Placed}
 use Rattle.uss_text.specs.declared.conflict.Side.{Side}
 use Rattle.uss_text.specs.declared.conflict.Side.TheVariants.{A, B}
-use Rattle.uss_text.specs.Lines.{lines_of, words_of}
+use Rattle.uss_text.specs.Lines.{most_bytes, lines_of, words_of}
 use Rattle.uss_text.specs.Refusals.{at_line}
 use Rattle.uss_text.specs.Reading.{◌>>=◌, read, Reader, word_at, end_at}
 use Rattle.uss_text.specs.Volumes.{volume_at}
@@ -62,4 +62,4 @@ lists_behind n (line ∷ lines) = do
 
 -- 64 MiB at the most
 unfoldable pub conflict_script : List ℕ → Result Lists ScriptRefusal
-conflict_script text = if nat_lt 67108864 (length text) then Err TextTooLarge else lists_behind 0 (lines_of text)
+conflict_script text = if nat_lt most_bytes (length text) then Err TextTooLarge else lists_behind 0 (lines_of text)

@@ -8,7 +8,7 @@ use Rattle.uss_text.specs.declared.refusal.WordRefusal.{WordRefusal}
 use Rattle.uss_text.specs.declared.refusal.WordRefusal.TheVariants.{BadLine}
 use Rattle.uss_text.specs.declared.refusal.ScriptRefusal.{ScriptRefusal}
 use Rattle.uss_text.specs.declared.refusal.ScriptRefusal.TheVariants.{TextTooLarge}
-use Rattle.uss_text.specs.Lines.{lines_of, words_of}
+use Rattle.uss_text.specs.Lines.{most_bytes, lines_of, words_of}
 use Rattle.uss_text.specs.Reading.{◌>>=◌, read, Reader, word_at, count_at, many_at, end_at, by_word, each_behind}
 use Rattle.uss_text.specs.Volumes.{volume_at}
 use Rattle.uss_text.specs.Intents.{name_at, base_at, ovn_at, ovn_or_none_at, identifier_at, state_at}
@@ -110,4 +110,4 @@ discover_line line = do
 
 -- 64 MiB at the most; else the calls of the lines, or the refusal of the first line that is refused
 unfoldable pub discover_script : List ℕ → Result (List DiscoverLine) ScriptRefusal
-discover_script text = if nat_lt 67108864 (length text) then Err TextTooLarge else each_behind discover_line 0 (lines_of text)
+discover_script text = if nat_lt most_bytes (length text) then Err TextTooLarge else each_behind discover_line 0 (lines_of text)

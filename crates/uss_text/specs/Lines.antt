@@ -2,6 +2,10 @@
 use Rattle.std.specs.Prelude.{◌≡◌, ℕ, ◌==◌, false, List, [], ◌∷◌, ◌++◌, Option, Some, None, if◌then◌else◌}
 use Rattle.std.specs.Borrow.{Bor}
 
+-- the most bytes of a script, which is read into memory whole: 64 MiB
+abbrev pub most_bytes : ℕ
+most_bytes = 67108864
+
 -- the byte in front of the first of the pieces
 abbrev pub onto_first : ℕ → List (List ℕ) → List (List ℕ)
 onto_first b [] = (b ∷ []) ∷ []

@@ -6,6 +6,7 @@ use Rattle.std.specs.List.{list_all}
 use Rattle.uss_shape.specs.declared.Place.{Place}
 use Rattle.uss_shape.specs.Shape.{corners}
 use Rattle.uss_vol4.specs.Volume.{Volume4D}
+use Rattle.uss_vol4.specs.Ranges.{is_in_plane, is_altitude, is_instant}
 use Rattle.uss_shape.specs.declared.ShapeRefusal.{ShapeRefusal}
 use Rattle.uss_shape.specs.declared.ShapeRefusal.TheVariants as Shape
 use Rattle.uss_vol4.specs.declared.VolRefusal.{VolRefusal}
@@ -60,17 +61,6 @@ volume_refusal Vol.Memory = Memory
 abbrev pub first_refused : {A : Type 0} → List (Bool × WordRefusal) → A → Result A WordRefusal
 first_refused [] x = Ok x
 first_refused (test ∷ tests) x = if test.0 then Err test.1 else first_refused tests x
-
-abbrev pub is_in_plane : Place → Bool
-is_in_plane p = int_le (neg_ℤ (pos 1800000000)) p.x && int_le p.x (pos 1800000000) && int_le (neg_ℤ (pos 900000000)) p.y && int_le p.y (pos 900000000)
-
--- 1 km below to 100 km above the datum
-abbrev pub is_altitude : ℤ → Bool
-is_altitude z = int_le (neg_ℤ (pos 1000000)) z && int_le z (pos 100000000)
-
--- 2000-01-01 to 2200-01-01
-abbrev pub is_instant : ℤ → Bool
-is_instant z = int_le (pos 946684800000000000) z && int_le z (pos 7258118400000000000)
 
 -- the refusals of an outline and then of a volume, in their order
 unfoldable pub volume_of : List Place → (low high start end : ℤ) → Result Volume4D WordRefusal

@@ -11,7 +11,7 @@ use uss_intent::Volumes;
 use uss_vol4::Volume4;
 
 /// The list that a line adds to.
-#[derive(Clone, Copy, Debug, PartialEq, Eq)]
+#[derive(Clone, Copy)]
 enum Side {
     A,
     B,

@@ -1,5 +1,14 @@
 //! Scripts: the text of the commands' input, line by line and word by word. What a text says is a definition
 //! over its bytes, apart from the readers here, which go through the bytes once and copy none of them.
+//!
+//! ```
+//! let script = read_conflict(alloc, b"a rect 0 0 10 10 0 100 1700003600000000000 1700005400000000000\n")?;
+//! assert!(rt; script.a.len() == 1 && script.b.is_empty());
+//! match read_discover(alloc, b"alpha fly") {
+//!     Ok(lines) => println!(rt; "{} calls", lines.len())?,
+//!     Err(refusal) => println!(rt; "{refusal}")?, // refused 441 line 1
+//! }
+//! ```
 #![tactic(auto)]
 
 mod asks;
@@ -19,6 +28,3 @@ pub use lines::MOST_BYTES;
 pub use numbers::{integer, natural};
 pub use refusal::{ScriptRefusal, WordRefusal};
 pub use replies::write_reply;
-
-#[cfg(test)]
-mod tests;

@@ -4,7 +4,7 @@ ghost use Rattle.uss_text.specs.Lines.{lines_of, IsFree, IsCut};
 use memchr::memchr;
 use std::marker::Model;
 
-/// The most bytes of a script: 64 MiB.
+/// The most bytes of a script: 64 MiB. Its definition is `most_bytes` of `specs/Lines.antt`.
 pub const MOST_BYTES: usize = 67_108_864;
 
 /// The bytes in front of the first separator, and those behind it, where there is one.

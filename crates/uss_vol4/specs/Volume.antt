@@ -23,12 +23,24 @@ abbrev pub Overlap : ℤ → ℤ → ℤ → ℤ → Type 0
 Overlap a b c d = (a ≤ℤ d) × (c ≤ℤ b)
 
 -- 1 km below to 100 km above the datum, in mm
+abbrev pub lowest : ℤ
+lowest = neg_ℤ (pos 1000000)
+
+abbrev pub highest : ℤ
+highest = pos 100000000
+
 abbrev pub InAltitude : ℤ → Type 0
-InAltitude c = InRange (neg_ℤ (pos 1000000)) (pos 100000000) c
+InAltitude c = InRange lowest highest c
 
 -- 2000-01-01 to 2200-01-01, in ns since 1970
+abbrev pub earliest : ℤ
+earliest = pos 946684800000000000
+
+abbrev pub latest : ℤ
+latest = pos 7258118400000000000
+
 abbrev pub InTime : ℤ → Type 0
-InTime c = InRange (pos 946684800000000000) (pos 7258118400000000000) c
+InTime c = InRange earliest latest c
 
 -- a volume as it can be made: an outline, and ranges that are in order and within the limits
 pub record IsVolume (v : Volume4D) : Type 0 where

@@ -1,5 +1,13 @@
 //! Volumes in four dimensions: an outline in the plane, a closed range of altitude and a closed range of time.
 //!
+//! ```
+//! // one flight is over the square up to 100 mm until LATER, and another from there on
+//! let first = Volume4::of(square.clone()?, 0, 100, EARLY, LATER)?;
+//! let second = Volume4::of(square, 100, 200, LATER, LAST)?;
+//! assert!(rt; Volume4::shares(&first, &second)); // at 100 mm, at LATER
+//! assert!(rt; Volume4::any_shared(&[first], &[second]) == Some((0, 0)));
+//! ```
+//!
 //! A volume is the Volume4D of the OpenAPI annex of ASTM F3548-21 with a polygon. Altitudes are in mm above the datum, instants in ns
 //! since 1970-01-01T00:00:00Z. Its borders belong to it: volumes that touch share a point.
 #![tactic(auto)]
@@ -9,12 +17,24 @@ ghost use Rattle.uss_vol4.specs.Volume.{Volume4D, IsVolume, InRange, Overlap, Ho
 ghost use Rattle.uss_vol4.specs.Sharing.{volume_holds, shares, any_shares};
 
 mod bounding;
-#[cfg(test)]
-mod tests;
+mod gaps;
 
+pub use gaps::{MOST_GAP, later_volumes_share_within_the_gap, shares_late};
 use std::alloc::AllocError;
 use std::marker::Model;
 use uss_shape::{Outline, Place, Rect};
+
+/// The least altitude, 1 km below the datum, in mm.
+pub const LOWEST: i64 = -1_000_000;
+
+/// The greatest altitude, 100 km above the datum, in mm.
+pub const HIGHEST: i64 = 100_000_000;
+
+/// The first instant, 2000-01-01T00:00:00Z, in ns since 1970.
+pub const EARLIEST: i64 = 946_684_800_000_000_000;
+
+/// The last instant, 2200-01-01T00:00:00Z, in ns since 1970.
+pub const LATEST: i64 = 7_258_118_400_000_000_000;
 
 /// A box: a rectangle in the plane in units of 1e-7 degrees, altitudes in mm and instants in ns since 1970, each closed.
 #[derive(Clone, Copy, PartialEq, Eq, Debug)]
@@ -139,10 +159,10 @@ impl Volume4 {
         if start > end {
             return Err(VolRefusal::StartAfterEnd);
         }
-        if low < -1_000_000 || 100_000_000 < high {
+        if low < LOWEST || HIGHEST < high {
             return Err(VolRefusal::AltitudeRange);
         }
-        if start < 946_684_800_000_000_000 || 7_258_118_400_000_000_000 < end {
+        if start < EARLIEST || LATEST < end {
             return Err(VolRefusal::TimeRange);
         }
         let _ = outline.vertices();

@@ -1,24 +1,46 @@
-//! JSON messages: the calls of the discovery service and the messages of tickets, after the OpenAPI annex of ASTM F3548-21 in this
-//! project's profile; an operator's cancels and sweeps; and the readers of three of the discovery service's answers, those with
-//! references or a ticket alone. Its other answers, and references as they are written, stand in `uss_wire_answer`.
+//! Every JSON message that the service reads or writes, for callers, who name this crate alone. A server of the discovery service reads
+//! the change of a reference, and writes what came of it:
 //!
-//! Each reader gives the value that a message stands for, or the first refusal in the order of the format, and nothing else but want
-//! of memory. Each writer gives the compact text with members ascending by name; a reader gives the value back, where one could have
-//! given it.
+//! ```
+//! use uss_wire::{read_put_reference, write_change_answer};
+//!
+//! let ask = read_put_reference(alloc, body, flight, Some(ovn))?;
+//! // ... carried out, it gives the reference as it is recorded, and those that are to be told
+//! let bytes = write_change_answer(alloc, &reference, &subscribers)?;
+//! ```
+//!
+//! A reader answers the value that a message stands for, or the first refusal in the order of the format: `WireRefusal`, with the
+//! `Member` that it is about. A writer answers compact text with members ascending by name, and its one error is want of memory. The
+//! messages with the discovery service stand in `uss_wire_dss`, those between suppliers and with operators in `uss_wire_uss`, what they
+//! are made of in `uss_wire_words`, refusals and instants in `uss_wire_base`.
 #![tactic(auto)]
 
-mod calls;
-mod operator;
-mod replies;
-mod writing;
+// Refusals, and the text of instants.
+pub use uss_wire_base::{InstantRefusal, Member, WireRefusal, read_instant, write_instant};
 
-pub use calls::{read_put_reference, read_put_subscription, read_query};
-pub use operator::{read_cancels, read_sweeps};
-pub use replies::{read_get_answer, read_query_answer, read_subscription_answer};
-pub use writing::{
-    messages_are_read_again, write_cancels, write_put_reference, write_put_subscription,
-    write_query, write_subscription_answer, write_sweeps,
+// The words for identifiers and states.
+pub use uss_wire_words::{flight_text, state_word, ticket_text};
+
+// Calls of the discovery service.
+pub use uss_wire_dss::{
+    read_put_reference, read_put_subscription, read_query, write_put_reference,
+    write_put_subscription, write_query,
 };
 
-#[cfg(test)]
-mod tests;
+// Its answers.
+pub use uss_wire_dss::{
+    ErrorBody, read_change_answer, read_error, read_get_answer, read_query_answer,
+    read_subscription_answer, write_change_answer, write_error, write_get_answer,
+    write_query_answer, write_subscription_answer,
+};
+
+// What suppliers tell each other.
+pub use uss_wire_uss::{
+    read_details_answer, read_notification, write_details_answer, write_notification,
+};
+
+// What an operator asks, and what it is answered.
+pub use uss_wire_uss::{
+    read_asks, read_cancels, read_positions, read_sweeps, write_asks, write_cancels, write_outcome,
+    write_positions, write_sweeps, write_swept,
+};

@@ -15,7 +15,7 @@ use Rattle.serde_json.specs.Written.{compact_text, has_float, items_have_float}
 use Rattle.uss_wire_base.specs.declared.refusal.Member.{Member}
 use Rattle.uss_wire_base.specs.declared.refusal.WireRefusal.{WireRefusal}
 use Rattle.uss_wire_base.specs.Reading.{◌>>=◌, Reader, each, items_length, message_of, whole_of}
-use Rattle.uss_wire_base.specs.Instants.{is_instant}
+use Rattle.uss_vol4.specs.Ranges.{is_instant}
 use Rattle.uss_wire_base.specs.Moments.{moment_at, instant_at, instant_json}
 use Rattle.uss_wire_base.proofs.InstantAgain.{instant_again}
 use Rattle.uss_wire_base.specs.Writing.{IsPlain, IsTextOf, IsSigned64, AllOf}

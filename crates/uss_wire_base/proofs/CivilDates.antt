@@ -13,7 +13,8 @@ use Rattle.jiff_core.specs.declared.civil.datetime.DateTime.{DateTime}
 use Rattle.uss_wire_base.specs.declared.instants.Civil.{Civil}
 use Rattle.jiff_core.specs.Timestamp.{IsTimestampNanos, IsOffsetSeconds, nanos_of_seconds}
 use Rattle.uss_wire_base.specs.declared.instants.InstantRefusal.TheVariants.{BadTime, TimeRange}
-use Rattle.uss_wire_base.specs.Instants.{is_between, is_civil, IsWritten, clock_of, moment_of, is_instant, in_range, instant_of}
+use Rattle.uss_vol4.specs.Ranges.{is_instant}
+use Rattle.uss_wire_base.specs.Instants.{is_between, is_civil, IsWritten, clock_of, moment_of, in_range, instant_of}
 
 from_between : (low high z : ℤ) → IsBetween low high z → is_between low high z ≡ true
 from_between low high z h = grind (arith, ints)

@@ -15,7 +15,8 @@ use Rattle.uss_wire_base.specs.declared.instants.Civil.{Civil}
 use Rattle.uss_wire_base.specs.declared.instants.InstantRefusal.{InstantRefusal}
 use Rattle.uss_wire_base.specs.declared.instants.InstantRefusal.TheVariants.{BadTime, TimeRange}
 use Rattle.uss_wire_base.specs.Reading.{◌>>=◌}
-use Rattle.uss_wire_base.specs.Instants.{is_between, is_civil, clock_of, moment_of, is_instant, in_range, instant_of, year_of, month_of, day_of, since_midnight}
+use Rattle.uss_vol4.specs.Ranges.{is_instant}
+use Rattle.uss_wire_base.specs.Instants.{is_between, is_civil, clock_of, moment_of, in_range, instant_of, year_of, month_of, day_of, since_midnight}
 use Rattle.uss_wire_base.specs.InstantText.{read, digit, two, four, nine, digits_at, mark_at, scaled_at, decimals_at, fraction_at, zone_at, date_at, time_at, end_at, civil_of, civil_at, read_instant, instant_text}
 use Rattle.uss_wire_base.proofs.Dates.{date_of}
 use Rattle.uss_wire_base.proofs.InstantTexts.{parts_text}

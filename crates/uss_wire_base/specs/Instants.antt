@@ -3,6 +3,7 @@
 use Rattle.std.specs.Prelude.{ℕ, zero, suc, ◌+◌, ◌*◌, ℤ, pos, neg_ℤ, unsigned_abs, ◌+ℤ◌, ◌-ℤ◌, ◌*ℤ◌, Bool, ◌&&◌, int_le, Result, Ok, Err, if◌then◌else◌}
 use Rattle.std.specs.Int.{int_div_euclid, int_rem_euclid}
 use Rattle.jiff_core.specs.Calendar.{IsBetween, days_in_month, days_from_civil}
+use Rattle.uss_vol4.specs.Ranges.{is_instant}
 use Rattle.uss_wire_base.specs.declared.instants.Civil.{Civil}
 use Rattle.uss_wire_base.specs.declared.instants.InstantRefusal.{InstantRefusal}
 use Rattle.uss_wire_base.specs.declared.instants.InstantRefusal.TheVariants.{BadTime, TimeRange}
@@ -39,10 +40,7 @@ clock_of c =
 abbrev pub moment_of : Civil → ℤ
 moment_of c = clock_of c -ℤ (c.east *ℤ pos 1_000_000_000)
 
--- 2000-01-01 to 2200-01-01
-abbrev pub is_instant : ℤ → Bool
-is_instant m = int_le (pos 946_684_800_000_000_000) m && int_le m (pos 7_258_118_400_000_000_000)
-
+-- the moment, where it is in the range of instants
 abbrev pub in_range : ℤ → Result ℤ InstantRefusal
 in_range m = if is_instant m then Ok m else Err TimeRange
 

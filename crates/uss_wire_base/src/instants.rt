@@ -7,6 +7,7 @@ ghost use Rattle.jiff_core.specs.Calendar.{IsBetween};
 ghost use Rattle.jiff_core.specs.DateTime.{civil_nanos};
 ghost use Rattle.uss_wire_base.specs.Instants.{IsWritten};
 ghost use Rattle.uss_wire_base.specs.Instants as spec;
+ghost use Rattle.uss_vol4.specs.Ranges.{is_instant};
 ghost use Rattle.uss_wire_base.specs.InstantText as words;
 ghost use Rattle.uss_wire_base.specs.InstantText.{Takes};
 ghost use Rattle.uss_wire_base.specs.Writing.{IsSigned64};
@@ -17,6 +18,7 @@ use jiff::tz::Offset;
 use jiff_core::civil::DateTime as Plain;
 use std::alloc::{AllocError, Global};
 use std::marker::Model;
+use uss_vol4::{EARLIEST, LATEST};
 
 /// A date and a time of day as a text of RFC 3339 gives them, which needn't exist.
 #[derive(Clone, Copy, Debug)]
@@ -43,10 +45,6 @@ pub enum InstantRefusal {
     Memory,
 }
 
-const FIRST: i128 = 946_684_800_000_000_000;
-
-const LAST: i128 = 7_258_118_400_000_000_000;
-
 /// The date and time of day, if there is one.
 fn shown(civil: Civil) -> Option<DateTime>
     requires { IsWritten civil }
@@ -70,7 +68,7 @@ fn in_range(instant: Timestamp) -> Result<i64, InstantRefusal>
     ensures { result ≡ spec.in_range instant.nanosecond }
 {
     let moment = instant.as_nanosecond();
-    if FIRST <= moment && moment <= LAST {
+    if EARLIEST as i128 <= moment && moment <= LATEST as i128 {
         Ok(moment as i64)
     } else {
         Err(InstantRefusal::TimeRange)
@@ -431,7 +429,7 @@ fn shown_text(alloc: Global, shown: Plain) -> Result<Vec<u8>, AllocError>
 /// The text of a moment in ns since 1970-01-01T00:00:00Z: `YYYY-MM-DDTHH:MM:SS.nnnnnnnnnZ`, for each moment that 64 bits hold.
 pub fn write_instant(alloc: Global, moment: i64) -> Result<Vec<u8>, AllocError>
     ensures text { IfOk result (λ t. t.items ≡ words.instant_text moment) }
-    ensures again { IsTrue (spec.is_instant moment) → IfOk result (λ t. words.read_instant t.items ≡ Ok moment) }
+    ensures again { IsTrue (is_instant moment) → IfOk result (λ t. words.read_instant t.items ≡ Ok moment) }
     ensures utf8 { IfOk result (λ t. IsUtf8 t.items) }
 {
     shown_text(alloc, utc(moment))

@@ -18,6 +18,3 @@ pub use reading::{
 };
 pub use refusal::{Member, WireRefusal};
 pub use writing::{WriteItem, list, message};
-
-#[cfg(test)]
-mod tests;

@@ -1,7 +1,7 @@
 use Rattle.std.proofs.Common.{◌≡◌, ◌∙◌, ◌++◌, ◌∷◌, [], List, Option, IfSome, ap, subst}
 use Rattle.uss_event.specs.declared.entries.Entry.{Entry}
 use Rattle.uss_law_book.specs.Coding.{HasCoding}
-use Rattle.uss_coding.specs.Coding.{coding_of}
+use Rattle.uss_book_codec.specs.Coding.{coding_of}
 use Rattle.uss_book.proofs.Records.{judged}
 use Rattle.uss_book.proofs.judge.judge.Goals as goal
 

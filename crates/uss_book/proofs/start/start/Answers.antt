@@ -1,6 +1,6 @@
 use Rattle.std.proofs.Common.{◌≡◌, ◌∙◌, ap, sym, subst, ◌++◌, ◌∷◌, [], List}
 use Rattle.uss_event.specs.declared.entries.Entry.{Entry}
-use Rattle.uss_coding.specs.Coding.{coding_of}
+use Rattle.uss_book_codec.specs.Coding.{coding_of}
 use Rattle.uss_book.specs.Refusal.{UnlessFault}
 use Rattle.uss_book.specs.declared.refusal.BookFault.{BookFault}
 use Rattle.uss_book.proofs.FirstEntry.{follows_none, first_legal, first_fits, append_passed, append_untouched, start_crash}

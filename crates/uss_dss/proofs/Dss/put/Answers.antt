@@ -8,16 +8,16 @@ use Rattle.uss_dss.proofs.Dss.put.Goals as goal
 
 pub invariant_of-self-2 : goal.invariant_of-self-2
 invariant_of-self-2 c =
-    rw (c.put_recorded.ensures, c.in_ok-reserve.ensures.items, c.write_indices.ensures, c.deref.ensures.value, c.in_ok-push.ensures.items)
+    rw (c.set_indices.ensures, c.deref.ensures.value, c.in_ok-record.ensures.ok.0, c.in_ok-record.ensures.ok.1)
     (subst (λ (x : DssReply × Service). IsOrderly x.1)
     (sym (landed_is _ c.args.self.now c.args.client.now c.args.flight c.args.ovn.now c.args.extents.now c.args.state c.args.base.now c.args.ticket
-    c.in_ok-recorded.recorded c.in_ok-landing.landing c.in_ok-reply.reply c.in_ok-change.change.subscribers.items c.in_ok-change.change.indices.items
-    c.self.view_is c.in_ok-recorded.ensures c.in_ok-landing.ensures c.in_ok-reply.ensures.cases c.in_ok-change.ensures.indices c.in_ok-change.ensures.subscribers))
+    c.in_ok-recorded.recorded c.in_ok-landing.landing c.in_ok-reply.reply c.in_ok-told.told.items
+    c.self.view_is (subst IsOrderly c.self.view_is c.self.invariant) c.in_ok-recorded.ensures c.in_ok-landing.ensures c.in_ok-reply.ensures.cases c.in_ok-told.ensures))
     c.requires.orderly)
 
 pub returns-clause-done : goal.returns-clause-done
 returns-clause-done c =
-    rw (c.put_recorded.ensures, c.in_ok-reserve.ensures.items, c.write_indices.ensures, c.deref.ensures.value, c.in_ok-push.ensures.items, c.from_vec.ensures)
+    rw (c.set_indices.ensures, c.deref.ensures.value, c.in_ok-record.ensures.ok.0, c.in_ok-record.ensures.ok.1, c.from_vec.ensures)
     (landed_is _ c.args.self.now c.args.client.now c.args.flight c.args.ovn.now c.args.extents.now c.args.state c.args.base.now c.args.ticket
-    c.in_ok-recorded.recorded c.in_ok-landing.landing c.in_ok-reply.reply c.in_ok-change.change.subscribers.items c.in_ok-change.change.indices.items
-    c.self.view_is c.in_ok-recorded.ensures c.in_ok-landing.ensures c.in_ok-reply.ensures.cases c.in_ok-change.ensures.indices c.in_ok-change.ensures.subscribers)
+    c.in_ok-recorded.recorded c.in_ok-landing.landing c.in_ok-reply.reply c.in_ok-told.told.items
+    c.self.view_is (subst IsOrderly c.self.view_is c.self.invariant) c.in_ok-recorded.ensures c.in_ok-landing.ensures c.in_ok-reply.ensures.cases c.in_ok-told.ensures)

@@ -6,17 +6,20 @@ use Rattle.uss_law_dss.specs.Orderly.{IsOrderly}
 use Rattle.uss_dss.proofs.Orderly.{removed, removed_is, removed_done}
 use Rattle.uss_dss.proofs.Dss.remove.Goals as goal
 
+pub remove-requires : goal.remove-requires
+remove-requires c = c.self.invariant.references_ascend
+
 pub invariant_of-self-2 : goal.invariant_of-self-2
 invariant_of-self-2 c =
-    rw (c.remove_flight.ensures, c.write_indices.ensures, c.deref.ensures.value, c.in_ok-push.ensures.items)
+    rw (c.set_indices.ensures, c.deref.ensures.value, c.remove.ensures, c.in_ok-push.ensures.ok, c.number.ensures)
     (subst (λ (x : DssReply × Service). IsOrderly x.1)
-    (sym (removed_is _ c.args.self.now c.args.client.now c.in-Some.r.now c.in_ok-reply.reply c.in_ok-change.change.subscribers.items c.in_ok-change.change.indices.items
-    c.self.view_is c.in_ok-reply.ensures.cases c.in_ok-change.ensures.indices c.in_ok-change.ensures.subscribers))
+    (sym (removed_is _ c.args.self.now c.args.client.now c.in-Some.r.now c.in_ok-reply.reply c.in_ok-told.told.items
+    c.self.view_is (subst IsOrderly c.self.view_is c.self.invariant) c.in_ok-reply.ensures.cases c.in_ok-told.ensures))
     (removed _ c.args.self.now c.args.client.now c.args.flight c.args.ovn.now c.in-Some.r.now c.self.view_is c.self.invariant c.requires c.in-Some.ensures))
 
 pub returns-clause-done : goal.returns-clause-done
 returns-clause-done c =
-    rw (c.remove_flight.ensures, c.write_indices.ensures, c.deref.ensures.value, c.in_ok-push.ensures.items, c.from_vec.ensures)
+    rw (c.set_indices.ensures, c.deref.ensures.value, c.remove.ensures, c.in_ok-push.ensures.ok, c.number.ensures, c.from_vec.ensures)
     (removed_done c.args.self.now c.args.client.now c.args.flight c.in-Some.r.now _ c.in-Some.ensures
-    (removed_is _ c.args.self.now c.args.client.now c.in-Some.r.now c.in_ok-reply.reply c.in_ok-change.change.subscribers.items c.in_ok-change.change.indices.items
-    c.self.view_is c.in_ok-reply.ensures.cases c.in_ok-change.ensures.indices c.in_ok-change.ensures.subscribers))
+    (removed_is _ c.args.self.now c.args.client.now c.in-Some.r.now c.in_ok-reply.reply c.in_ok-told.told.items
+    c.self.view_is (subst IsOrderly c.self.view_is c.self.invariant) c.in_ok-reply.ensures.cases c.in_ok-told.ensures))

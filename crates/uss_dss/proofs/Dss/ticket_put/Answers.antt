@@ -5,5 +5,5 @@ use Rattle.uss_dss.proofs.Dss.ticket_put.Goals as goal
 
 pub invariant_of-self-2 : goal.invariant_of-self-2
 invariant_of-self-2 c =
-    rw (c.in_ok-put_ticket.ensures, c.in_ok-new.ensures)
+    rw (c.in_ok-put.ensures.ok, c.in_ok-new.ensures)
     (closed _ c.args.self.now c.args.client.now (TicketPut c.args.ticket c.args.area.now c.args.base.now) c.self.view_is c.self.invariant c.requires)

@@ -1,6 +1,4 @@
 -- One OVN more.
-use Rattle.std.proofs.Common.{ap, ◌∙◌, cond, true, Some}
-use Rattle.uss_intent.specs.Same.{same_text}
 use Rattle.uss_dss.proofs.KeyLemmas.{key_more}
 use Rattle.uss_dss.proofs.key.key_set.Goals as goal
 

@@ -1,9 +1,9 @@
 use Rattle.std.proofs.Common.{arith, subst, sym, drop, length-take, Ok, Err}
 use Rattle.std.specs.Prelude.{List, ℕ}
-use Rattle.uss_http_base.specs.Pieces.{piece_limit}
+use Rattle.uss_http_request.specs.Pieces.{piece_limit}
 use Rattle.uss_http_response.specs.Heads.{BeginsWith}
 use Rattle.uss_http_response.proofs.HeadSteps.{halted_head, begins_at, says_at, refused_head}
-use Rattle.uss_http_base.proofs.Prompting.{head_halted, unless_fault}
+use Rattle.uss_http_request.proofs.Prompting.{head_halted, unless_fault}
 use Rattle.uss_http_response.proofs.heads.take_status_head.Goals as goal
 
 pub returns-in-Err-clause-refused : goal.returns-in-Err-clause-refused

@@ -1,8 +1,8 @@
 use Rattle.std.proofs.Common.{refl}
-use Rattle.uss_http_base.proofs.Passing.{hears_same, hears_then}
+use Rattle.uss_http_request.proofs.Passing.{hears_same, hears_then}
 use Rattle.uss_http_response.proofs.ResponseSteps.{wanted, head_missing, body_missing, response_taken}
 use Rattle.uss_http_response.proofs.PromptSteps.{head_prompt, body_prompt}
-use Rattle.uss_http_base.proofs.Prompting.{refused_map}
+use Rattle.uss_http_request.proofs.Prompting.{refused_map}
 use Rattle.uss_http_response.proofs.response.take_response.Goals as goal
 
 pub returns-in-Err-clause-answer : goal.returns-in-Err-clause-answer

@@ -1,7 +1,7 @@
 use Rattle.std.proofs.Common.{◌∙◌, arith, subst, sym}
 use Rattle.std.specs.Prelude.{List, ℕ}
-use Rattle.uss_http_base.specs.Streams.{Passes}
-use Rattle.uss_http_base.proofs.Passing.{passes_then, hears_then}
+use Rattle.uss_http_request.specs.Streams.{Passes}
+use Rattle.uss_http_request.proofs.Passing.{passes_then, hears_then}
 use Rattle.uss_http_response.proofs.PromptSteps.{rest_open}
 use Rattle.uss_http_response.proofs.rest.take_rest.Goals as goal
 

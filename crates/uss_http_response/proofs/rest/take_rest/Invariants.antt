@@ -1,7 +1,7 @@
 use Rattle.std.proofs.Common.{◌≡◌, ◌≤◌, ◌-◌, length}
-use Rattle.uss_http_base.specs.Fields.{body_limit}
-use Rattle.uss_http_base.specs.Prompt.{IsPrompt}
-use Rattle.uss_http_base.specs.Streams.{Hears, Passes}
+use Rattle.uss_http_request.specs.Fields.{body_limit}
+use Rattle.uss_http_request.specs.Prompt.{IsPrompt}
+use Rattle.uss_http_request.specs.Streams.{Hears, Passes}
 use Rattle.uss_http_response.proofs.rest.take_rest.Given as goal
 
 abbrev pub invariant-taking : goal.invariant-taking

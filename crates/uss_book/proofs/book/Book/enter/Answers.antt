@@ -2,7 +2,7 @@ use Rattle.std.proofs.Common.{◌≡◌, ◌∙◌, List, ◌++◌, ◌∷◌, [
 use Rattle.std.proofs.Common.{arith}
 use Rattle.uss_event.specs.declared.entries.Entry.{Entry}
 use Rattle.uss_law_book.specs.Legal.{MayFollow}
-use Rattle.uss_coding.specs.Coding.{coding_of}
+use Rattle.uss_book_codec.specs.Coding.{coding_of}
 use Rattle.uss_book.specs.Book.{BookView}
 use Rattle.uss_book.proofs.Lengths.{fits_after}
 use Rattle.uss_book.proofs.Entering.{none_from_not, entered_whole}

@@ -1,7 +1,7 @@
 use Rattle.std.proofs.Common.{◌≡◌, true, sym, ◌∙◌, List, [], ◌∷◌, ◌++◌}
 use Rattle.std.specs.Option.{option_to_list}
-use Rattle.uss_law_duty.specs.Heard.{News, without, kept_pairs}
-use Rattle.uss_law_duty.specs.Heard.News.{Forgotten}
+use Rattle.uss_event.specs.Heard.{News, without, kept_pairs}
+use Rattle.uss_event.specs.Heard.News.{Forgotten}
 use Rattle.uss_key.specs.Kept.{may_be_kept}
 use Rattle.uss_key.proofs.Stores.{kept_without}
 use Rattle.uss_key.proofs.Rooms.{kept_pairs_more}

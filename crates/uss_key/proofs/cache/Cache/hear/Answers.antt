@@ -1,6 +1,6 @@
 use Rattle.std.proofs.Common.{◌≡◌, true, false, sym, ◌∙◌, List, [], ◌∷◌, ◌++◌, find, arith}
-use Rattle.uss_law_duty.specs.Heard.{News, is_of, after_news, kept_pairs}
-use Rattle.uss_law_duty.specs.Heard.News.{Heard}
+use Rattle.uss_event.specs.Heard.{News, is_of, after_news, kept_pairs}
+use Rattle.uss_event.specs.Heard.News.{Heard}
 use Rattle.uss_key.specs.Kept.{is_older}
 use Rattle.uss_key.proofs.Rooms.{heard_old, heard_new, kept_pairs_more}
 use Rattle.uss_key.proofs.cache.Cache.hear.Goals as goal

@@ -1,4 +1,4 @@
-use Rattle.uss_law_duty.specs.Heard.{kept_pairs}
+use Rattle.uss_event.specs.Heard.{kept_pairs}
 use Rattle.uss_key.proofs.cache.Cache.new.Goals as goal
 
 pub returns-clause-heard : goal.returns-clause-heard

@@ -2,7 +2,7 @@ use Rattle.std.proofs.Common.{None, ◌≡◌, ◌<◌, ◌≤◌, ◌++◌, tru
 use Rattle.std.specs.List.{list_any}
 use Rattle.std.specs.Option.{option_to_list}
 use Rattle.std.proofs.lemmas.List.Folds.{list_any-append}
-use Rattle.uss_law_duty.specs.Heard.{is_of}
+use Rattle.uss_event.specs.Heard.{is_of}
 use Rattle.uss_key.specs.Kept.{may_be_kept}
 use Rattle.uss_key.proofs.Rooms.{forgotten_first, forgotten_with_room, only_forgotten}
 use Rattle.uss_key.proofs.Others.{forgotten_of_settled, forgotten_of_last, others_stay}
@@ -37,8 +37,8 @@ returns-then-is_of-clause-forgotten c =
 pub returns-then-is_of-clause-none : goal.returns-then-is_of-clause-none
 returns-then-is_of-clause-none c = others_stay c.args.flight c.args.self.now.pairs None (returns-then-is_of-clause-forgotten c)
 
-pub returns-then-len-count-lt4096-clause-forgotten : goal.returns-then-len-count-lt4096-clause-forgotten
-returns-then-len-count-lt4096-clause-forgotten c =
+pub returns-then-len-count-lt-MOST_REFERENCES-clause-forgotten : goal.returns-then-len-count-lt-MOST_REFERENCES-clause-forgotten
+returns-then-len-count-lt-MOST_REFERENCES-clause-forgotten c =
     let settled = c.self.inside.settled in
     let last = option_to_list c.self.inside.newest in
     let no_settled : list_any (is_of c.args.flight) settled ≡ false = sym c.has.ensures ∙ c.if-has.false in
@@ -47,8 +47,8 @@ returns-then-len-count-lt4096-clause-forgotten c =
     let room : length (settled ++ last) < 4096 = simp length-append (omega arith) in
     rw (← c.self.view_is) (sym (forgotten_with_room c.args.flight (settled ++ last) room none))
 
-pub returns-then-len-count-lt4096-clause-none : goal.returns-then-len-count-lt4096-clause-none
-returns-then-len-count-lt4096-clause-none c = others_stay c.args.flight c.args.self.now.pairs None (returns-then-len-count-lt4096-clause-forgotten c)
+pub returns-then-len-count-lt-MOST_REFERENCES-clause-none : goal.returns-then-len-count-lt-MOST_REFERENCES-clause-none
+returns-then-len-count-lt-MOST_REFERENCES-clause-none c = others_stay c.args.flight c.args.self.now.pairs None (returns-then-len-count-lt-MOST_REFERENCES-clause-forgotten c)
 
 pub returns-clause-none : goal.returns-clause-none
 returns-clause-none c = others_stay c.args.flight c.args.self.now.pairs c.first_flight.result (returns-clause-forgotten c)

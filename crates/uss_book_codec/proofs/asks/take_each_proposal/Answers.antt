@@ -1,0 +1,20 @@
+use Rattle.std.proofs.lemmas.Result.{err_from_is_err_and}
+use Rattle.uss_codec.specs.Reading.{many_at}
+use Rattle.uss_codec.proofs.Loop.{begins, goes_on, ends, is_done}
+use Rattle.uss_book_codec.specs.Reading.{proposal_at}
+use Rattle.uss_book_codec.proofs.asks.take_each_proposal.Goals as goal
+
+pub loop-init : goal.loop-init
+loop-init c = rw c.new-items.ensures.items (begins proposal_at c.args.count c.args.bytes.now)
+
+pub returns-in_err-item : goal.returns-in_err-item
+returns-in_err-item c =
+    let p = err_from_is_err_and c.from_residual.result c.from_residual.ensures.1 in
+    rw (p.1, p.2) (ends proposal_at c.in_err-item.field-0.0 c.loop.items.items c.args.count c.loop.counter c.loop.rest.now (many_at proposal_at c.args.count c.args.bytes.now) c.loop-test.true c.in_err-item.ensures c.loop.invariant)
+
+pub loop-preserved : goal.loop-preserved
+loop-preserved c =
+    rw c.in_ok-push.ensures.items (goes_on proposal_at c.loop.items.items c.args.count c.loop.counter c.loop.rest.now c.in_ok-item.item c.in_ok-item.behind.now (many_at proposal_at c.args.count c.args.bytes.now) c.loop-test.true c.in_ok-item.ensures c.loop.invariant)
+
+pub returns : goal.returns
+returns c = is_done proposal_at c.loop.items.items c.args.count c.loop.counter c.loop.rest.now (many_at proposal_at c.args.count c.args.bytes.now) c.loop-test.false c.loop.invariant

@@ -1,0 +1,7 @@
+use Rattle.std.proofs.Common.{◌≡◌, ◌++◌, take}
+use Rattle.std.specs.List.{flat_map}
+use Rattle.uss_book_codec.specs.Coding.{subscriber}
+use Rattle.uss_book_codec.proofs.endings.put_each_subscriber.Given as goal
+
+abbrev pub invariant-loop-value : goal.invariant-loop-value
+invariant-loop-value l = l.out.items ≡ l.fn.out.items ++ flat_map subscriber (take l.value-index l.values)

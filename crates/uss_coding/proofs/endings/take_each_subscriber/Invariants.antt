@@ -1,8 +1,0 @@
-use Rattle.std.proofs.Common.{◌≡◌, ◌-◌}
-use Rattle.uss_coding_base.specs.Reading.{many_at}
-use Rattle.uss_coding_base.proofs.Loop.{with_front}
-use Rattle.uss_coding.specs.Reading.{subscriber_at}
-use Rattle.uss_coding.proofs.endings.take_each_subscriber.Given as goal
-
-abbrev pub invariant-loop : goal.invariant-loop
-invariant-loop l = with_front subscriber_at l.items.items (many_at subscriber_at (l.count - l.counter) l.rest) ≡ many_at subscriber_at l.count l.bytes

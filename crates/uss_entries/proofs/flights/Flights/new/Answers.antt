@@ -1,5 +1,0 @@
-use Rattle.uss_entries.proofs.Flown.{none_flown}
-use Rattle.uss_entries.proofs.flights.Flights.new.Goals as goal
-
-pub returns : goal.returns
-returns c = none_flown c.new.result c.new.ensures.empty

@@ -1,6 +1,0 @@
-use Rattle.std.proofs.Common.{◌∙◌}
-use Rattle.uss_entries.proofs.Numbered.{got_first}
-use Rattle.uss_entries.proofs.indexed.first.Goals as goal
-
-pub returns : goal.returns
-returns c = λ are. c.at.ensures ∙ got_first c.args.entries.now c.place.result _ (c.place.ensures c.args.entries.now are)

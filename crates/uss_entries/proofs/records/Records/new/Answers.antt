@@ -1,5 +1,0 @@
-use Rattle.uss_entries.proofs.Recorded.{none_recorded}
-use Rattle.uss_entries.proofs.records.Records.new.Goals as goal
-
-pub returns : goal.returns
-returns c = none_recorded c.new.result c.new.ensures.empty

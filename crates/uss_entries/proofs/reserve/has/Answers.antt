@@ -1,8 +1,0 @@
-use Rattle.std.proofs.Common.{◌∙◌, ap, is_some}
-use Rattle.uss_entries.specs.Marks.{has_mark}
-use Rattle.uss_law_book.proofs.Finds.{any_found}
-use Rattle.uss_entries.proofs.Told.{copied_some}
-use Rattle.uss_entries.proofs.reserve.has.Goals as goal
-
-pub returns : goal.returns
-returns c = λ are. c.is_some.ensures ∙ copied_some c.first.result ∙ ap is_some (c.first.ensures are) ∙ any_found (has_mark c.args.mark) c.args.entries.now

@@ -1,5 +1,0 @@
-use Rattle.uss_entries.proofs.Counted.{none_counted}
-use Rattle.uss_entries.proofs.tallies.Tallies.new.Goals as goal
-
-pub returns : goal.returns
-returns c = none_counted c.new.result c.new.ensures.empty

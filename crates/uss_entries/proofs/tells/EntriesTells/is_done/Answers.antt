@@ -1,6 +1,0 @@
-use Rattle.std.proofs.Common.{◌∙◌}
-use Rattle.uss_legal.proofs.Direct.{done_by_any}
-use Rattle.uss_entries.proofs.tells.EntriesTells.is_done.Goals as goal
-
-pub returns : goal.returns
-returns c = c.has.ensures ∙ done_by_any c.args.job c.args.self.now.entries

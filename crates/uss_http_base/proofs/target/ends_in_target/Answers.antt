@@ -1,6 +1,0 @@
-use Rattle.std.proofs.Common.{◌∙◌, sym}
-use Rattle.uss_http_base.proofs.Targets.{to_target, from_target}
-use Rattle.uss_http_base.proofs.target.ends_in_target.Goals as goal
-
-pub returns : goal.returns
-returns c = (λ t. to_target c.args.bytes.now (sym c.tests.ensures ∙ t), λ e. c.tests.ensures ∙ from_target c.args.bytes.now e)

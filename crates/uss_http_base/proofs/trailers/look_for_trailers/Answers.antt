@@ -1,9 +1,0 @@
-use Rattle.std.proofs.Common.{ap, Err, subst}
-use Rattle.std.specs.Prelude.{ℕ}
-use Rattle.httparse.specs.Spans.{SectionExceeds}
-use Rattle.uss_http_base.proofs.Room.{roomy_section}
-use Rattle.uss_http_base.proofs.trailers.look_for_trailers.Goals as goal
-
-pub returns-in-Err-TooManyHeaders-clause-room : goal.returns-in-Err-TooManyHeaders-clause-room
-returns-in-Err-TooManyHeaders-clause-room c = λ same.
-    absurd (roomy_section c.args.bytes.now c.requires (subst (λ (n : ℕ). SectionExceeds n c.args.bytes.now) same (c.in-Err-TooManyHeaders.ensures.too_many (ap Err c.in-Err-TooManyHeaders.field-0-is))))

@@ -1,0 +1,10 @@
+pub mod Floors
+pub mod Meeting
+pub mod Bits
+pub mod Tests
+pub mod Rows
+pub mod Keeping
+pub mod Lists
+pub mod Columns
+pub mod Found
+pub mod Bounded

@@ -1,4 +1,0 @@
-pub mod Texts
-pub mod Decided
-pub mod Requests
-pub mod Responses

@@ -1,5 +1,0 @@
-use Rattle.uss_law_http.proofs.Same.{one_answer}
-use Rattle.uss_law_http.proofs.laws.one_answer.Goals as goal
-
-pub returns : goal.returns
-returns c = one_answer

@@ -1,6 +1,0 @@
-pub mod Direct
-pub mod Last
-pub mod Tested
-pub mod Ended
-pub mod HeldState
-pub mod AnyEntry

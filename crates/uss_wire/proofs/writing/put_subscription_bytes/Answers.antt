@@ -1,5 +1,0 @@
-use Rattle.uss_wire.proofs.Again.{put_subscription_plain}
-use Rattle.uss_wire.proofs.writing.put_subscription_bytes.Goals as goal
-
-pub message-requires : goal.message-requires
-message-requires c = rw c.in_ok-value.ensures (put_subscription_plain c.args.area.now c.args.base.now)

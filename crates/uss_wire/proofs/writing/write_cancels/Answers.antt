@@ -1,5 +1,0 @@
-use Rattle.uss_wire.proofs.Again.{cancels_plain}
-use Rattle.uss_wire.proofs.writing.write_cancels.Goals as goal
-
-pub message-requires : goal.message-requires
-message-requires c = rw c.in_ok-value.ensures (cancels_plain c.args.flight c.args.number)

@@ -1,5 +1,0 @@
-use Rattle.uss_wire.proofs.Again.{subscription_answer_plain}
-use Rattle.uss_wire.proofs.writing.write_subscription_answer.Goals as goal
-
-pub message-requires : goal.message-requires
-message-requires c = rw c.in_ok-value.ensures (subscription_answer_plain c.args.ticket.now)

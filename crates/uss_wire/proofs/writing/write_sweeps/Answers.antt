@@ -1,5 +1,0 @@
-use Rattle.uss_wire.proofs.Again.{sweeps_plain}
-use Rattle.uss_wire.proofs.writing.write_sweeps.Goals as goal
-
-pub message-requires : goal.message-requires
-message-requires c = rw c.in_ok-value.ensures (sweeps_plain c.args.skip)

@@ -1,8 +1,0 @@
-use Rattle.std.proofs.Common.{List, ◌++◌, ap, ◌∙◌, sym}
-use Rattle.uss_intent.specs.declared.records.Subscriber.{Subscriber}
-use Rattle.uss_wire_answer.specs.Answers.{owed_by}
-use Rattle.uss_wire_answer.proofs.Flat.{owed_more}
-use Rattle.uss_wire_answer.proofs.changes.flattened.Goals as goal
-
-pub loop-one-preserved : goal.loop-one-preserved
-loop-one-preserved c = c.in_ok-append.ensures ∙ ap (λ (a : List Subscriber). a ++ owed_by c.in-Some.one) c.loop-one.invariant ∙ sym (owed_more c.loop-one.yielded c.in-Some.one)

@@ -1,7 +1,0 @@
-use Rattle.std.proofs.Common.{◌≡◌}
-use Rattle.std.specs.Prelude.{map}
-use Rattle.uss_wire_answer.specs.Answers.{flatten, owed_by}
-use Rattle.uss_wire_answer.proofs.changes.flattened.Given as goal
-
-abbrev pub invariant-loop-one : goal.invariant-loop-one
-invariant-loop-one l = l.all ≡ flatten (map owed_by l.yielded)

@@ -1,5 +1,0 @@
-use Rattle.uss_wire_answer.proofs.Again.{query_answer_plain}
-use Rattle.uss_wire_answer.proofs.writing.write_query_answer.Goals as goal
-
-pub message-requires : goal.message-requires
-message-requires c = rw c.in_ok-value.ensures (query_answer_plain c.args.references.now)

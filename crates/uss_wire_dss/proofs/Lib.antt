@@ -1,0 +1,4 @@
+pub mod CallsAgain
+pub mod RepliesPlain
+pub mod Flat
+pub mod RepliesAgain

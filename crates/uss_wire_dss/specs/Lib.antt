@@ -1,0 +1,5 @@
+pub mod Calls
+pub mod CallWriting
+pub mod Replies
+pub mod ChangesAndErrors
+pub mod ReplyWriting

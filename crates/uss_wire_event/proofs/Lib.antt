@@ -1,5 +1,0 @@
-pub mod Shown
-pub mod Timed
-pub mod Plain
-pub mod Reread
-pub mod PlainOutcomes

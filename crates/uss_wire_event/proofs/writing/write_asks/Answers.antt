@@ -1,5 +1,0 @@
-use Rattle.uss_wire_event.proofs.Plain.{asks_plain}
-use Rattle.uss_wire_event.proofs.writing.write_asks.Goals as goal
-
-pub message-requires : goal.message-requires
-message-requires c = rw c.in_ok-value.ensures (asks_plain c.args.ask.now)

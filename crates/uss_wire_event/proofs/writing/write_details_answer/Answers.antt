@@ -1,5 +1,0 @@
-use Rattle.uss_wire_event.proofs.Plain.{details_answer_plain}
-use Rattle.uss_wire_event.proofs.writing.write_details_answer.Goals as goal
-
-pub message-requires : goal.message-requires
-message-requires c = rw c.in_ok-value.ensures (details_answer_plain c.args.pair.now)

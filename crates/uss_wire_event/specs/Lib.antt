@@ -1,4 +1,0 @@
-pub mod Intents
-pub mod Asks
-pub mod Writing
-pub mod Outcomes

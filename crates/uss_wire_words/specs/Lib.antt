@@ -1,0 +1,5 @@
+pub mod Volumes
+pub mod VolumeWriting
+pub mod Texts
+pub mod References
+pub mod ReferenceWriting
