@@ -11,81 +11,133 @@ use uss_rest::{
 };
 use uss_wire_base::{Member, WireRefusal};
 
-/// The refusals without references, each with its status and its body, written by hand.
-fn plain(index: usize) -> Option<(DssRefusal, u16, &'static str)> {
-    match index {
-        0 => Some((
-            DssRefusal::BadCall,
-            400,
-            "{\"message\":\"BadCall\",\"refusal\":201}",
-        )),
-        1 => Some((
-            DssRefusal::NotYours,
-            403,
-            "{\"message\":\"NotYours\",\"refusal\":202}",
-        )),
-        2 => Some((
-            DssRefusal::Exists,
-            409,
-            "{\"message\":\"Exists\",\"refusal\":203}",
-        )),
-        3 => Some((
-            DssRefusal::Retired,
-            404,
-            "{\"message\":\"Retired\",\"refusal\":204}",
-        )),
-        4 => Some((
-            DssRefusal::Absent,
-            404,
-            "{\"message\":\"Absent\",\"refusal\":205}",
-        )),
-        5 => Some((
-            DssRefusal::StaleOvn,
-            409,
-            "{\"message\":\"StaleOvn\",\"refusal\":206}",
-        )),
-        6 => Some((
-            DssRefusal::NoTicket,
-            400,
-            "{\"message\":\"NoTicket\",\"refusal\":207}",
-        )),
-        7 => Some((
-            DssRefusal::NotCovered,
-            400,
-            "{\"message\":\"NotCovered\",\"refusal\":208}",
-        )),
-        8 => Some((
-            DssRefusal::TicketInUse,
-            400,
-            "{\"message\":\"TicketInUse\",\"refusal\":210}",
-        )),
-        9 => Some((
-            DssRefusal::Full(0),
-            503,
-            "{\"message\":\"Full\",\"refusal\":211}",
-        )),
-        _ => None,
-    }
+/// Whether the refusal goes out with this status and body, written by hand, comes back as this one, and is none with another status.
+fn comes_back(
+    alloc: Global,
+    refusal: DssRefusal,
+    again: DssRefusal,
+    status: u16,
+    body: &str,
+) -> Result<bool, Fail> {
+    let client = own(alloc)?;
+    let response = write_refusal(alloc, refusal)?;
+    let read = read_refusal(alloc, status, body.as_bytes(), &client)?;
+    let other = read_refusal(alloc, 418, body.as_bytes(), &client)?;
+    Ok(
+        response.status == status
+            && response.body.as_slice() == body.as_bytes()
+            && read == Some(again)
+            && other.is_none(),
+    )
 }
 
 #[test]
-fn refusals_are_written_and_read(rt: HostRuntime) -> Result<(), Fail> {
-    let client = own(rt.alloc())?;
-    let mut index = 0;
-    while let Some((refusal, status, body)) = plain(index) {
-        let response = write_refusal(rt.alloc(), refusal)?;
-        assert!(rt; response.status == status);
-        assert!(rt; response.body.as_slice() == body.as_bytes());
-        let read = read_refusal(rt.alloc(), status, body.as_bytes(), &client)?;
-        if let Some((refusal, _, _)) = plain(index) {
-            assert!(rt; read == Some(refusal));
-        }
-        // another status, and no refusal at all
-        let other = read_refusal(rt.alloc(), 418, body.as_bytes(), &client)?;
-        assert!(rt; other.is_none());
-        index = index.wrapping_add(1);
-    }
-    assert!(rt; index == 10);
+fn refusals_come_back(rt: HostRuntime) -> Result<(), Fail> {
+    let body = "{\"message\":\"BadCall\",\"refusal\":201}";
+    assert!(rt;
+        comes_back(
+            rt.alloc(),
+            DssRefusal::BadCall,
+            DssRefusal::BadCall,
+            400,
+            body
+        )?
+    );
+    let body = "{\"message\":\"NotYours\",\"refusal\":202}";
+    assert!(rt;
+        comes_back(
+            rt.alloc(),
+            DssRefusal::NotYours,
+            DssRefusal::NotYours,
+            403,
+            body
+        )?
+    );
+    let body = "{\"message\":\"Exists\",\"refusal\":203}";
+    assert!(rt;
+        comes_back(
+            rt.alloc(),
+            DssRefusal::Exists,
+            DssRefusal::Exists,
+            409,
+            body
+        )?
+    );
+    let body = "{\"message\":\"Retired\",\"refusal\":204}";
+    assert!(rt;
+        comes_back(
+            rt.alloc(),
+            DssRefusal::Retired,
+            DssRefusal::Retired,
+            404,
+            body
+        )?
+    );
+    let body = "{\"message\":\"Absent\",\"refusal\":205}";
+    assert!(rt;
+        comes_back(
+            rt.alloc(),
+            DssRefusal::Absent,
+            DssRefusal::Absent,
+            404,
+            body
+        )?
+    );
+    Ok(())
+}
+
+#[test]
+fn further_refusals_come_back(rt: HostRuntime) -> Result<(), Fail> {
+    let body = "{\"message\":\"StaleOvn\",\"refusal\":206}";
+    assert!(rt;
+        comes_back(
+            rt.alloc(),
+            DssRefusal::StaleOvn,
+            DssRefusal::StaleOvn,
+            409,
+            body
+        )?
+    );
+    let body = "{\"message\":\"NoTicket\",\"refusal\":207}";
+    assert!(rt;
+        comes_back(
+            rt.alloc(),
+            DssRefusal::NoTicket,
+            DssRefusal::NoTicket,
+            400,
+            body
+        )?
+    );
+    let body = "{\"message\":\"NotCovered\",\"refusal\":208}";
+    assert!(rt;
+        comes_back(
+            rt.alloc(),
+            DssRefusal::NotCovered,
+            DssRefusal::NotCovered,
+            400,
+            body
+        )?
+    );
+    let body = "{\"message\":\"TicketInUse\",\"refusal\":210}";
+    assert!(rt;
+        comes_back(
+            rt.alloc(),
+            DssRefusal::TicketInUse,
+            DssRefusal::TicketInUse,
+            400,
+            body
+        )?
+    );
+    let body = "{\"message\":\"Full\",\"refusal\":211}";
+    assert!(rt;
+        comes_back(
+            rt.alloc(),
+            DssRefusal::Full(0),
+            DssRefusal::Full(0),
+            503,
+            body
+        )?
+    );
     Ok(())
 }
 

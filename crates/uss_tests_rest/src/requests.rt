@@ -28,98 +28,90 @@ fn bases_have_their_addresses(rt: HostRuntime) -> Result<(), Fail> {
     Ok(())
 }
 
-/// A call, its method and its path.
-fn call(alloc: Global, index: usize) -> Result<Option<(DssAsk, &'static str, &'static str)>, Fail> {
+/// The creation of the first flight's reference, or the change of the one with this OVN.
+fn put(alloc: Global, ovn: Option<Ovn>) -> Result<DssAsk, Fail> {
     let mut extents = Volumes::new(alloc);
     extents.push(area(alloc, 0)?)?;
-    Ok(match index {
-        0 => Some((
-            DssAsk::Query {
-                area: area(alloc, 0)?,
-            },
-            "POST",
-            "/x/dss/v1/operational_intent_references/query",
-        )),
-        1 => Some((
-            DssAsk::Get { flight: flight(1) },
-            "GET",
-            "/x/dss/v1/operational_intent_references/00000001-0000-4000-8000-000000000001",
-        )),
-        2 => Some((
-            DssAsk::Put {
-                flight: flight(1),
-                ovn: None,
-                extents,
-                key: Ovns::new(alloc),
-                state: State::Accepted,
-                base: base(alloc)?,
-                ticket: ticket(1),
-            },
-            "PUT",
-            "/x/dss/v1/operational_intent_references/00000001-0000-4000-8000-000000000001",
-        )),
-        3 => Some((
-            DssAsk::Put {
-                flight: flight(1),
-                ovn: Some(Ovn::of(alloc, b"ovn-00000000000000/%1")?),
-                extents,
-                key: Ovns::new(alloc),
-                state: State::Accepted,
-                base: base(alloc)?,
-                ticket: ticket(1),
-            },
-            "PUT",
-            "/x/dss/v1/operational_intent_references/00000001-0000-4000-8000-000000000001/ovn-00000000000000%2F%251",
-        )),
-        4 => Some((
-            DssAsk::Remove {
-                flight: flight(1),
-                ovn: Ovn::of(alloc, b"ovn-0000000000000001")?,
-            },
-            "DELETE",
-            "/x/dss/v1/operational_intent_references/00000001-0000-4000-8000-000000000001/ovn-0000000000000001",
-        )),
-        5 => Some((
-            DssAsk::TicketPut {
-                ticket: ticket(1),
-                area: area(alloc, 0)?,
-                base: base(alloc)?,
-            },
-            "PUT",
-            "/x/dss/v1/subscriptions/00000001-0001-4000-8000-000000000001",
-        )),
-        6 => Some((
-            DssAsk::TicketGet { ticket: ticket(1) },
-            "GET",
-            "/x/dss/v1/subscriptions/00000001-0001-4000-8000-000000000001",
-        )),
-        7 => Some((
-            DssAsk::TicketRemove {
-                ticket: ticket(1),
-                version: 1,
-            },
-            "DELETE",
-            "/x/dss/v1/subscriptions/00000001-0001-4000-8000-000000000001/1",
-        )),
-        _ => None,
+    Ok(DssAsk::Put {
+        flight: flight(1),
+        ovn,
+        extents,
+        key: Ovns::new(alloc),
+        state: State::Accepted,
+        base: base(alloc)?,
+        ticket: ticket(1),
     })
 }
 
+/// Whether the call goes out with this method and path, behind the service's own path, by its client, and with a message just where the
+/// method has one.
+fn goes_out(alloc: Global, ask: &DssAsk, method: &str, path: &str) -> Result<bool, Fail> {
+    let client = own(alloc)?;
+    let base = Base::of(alloc, b"http://dss.test/x")?;
+    let address = Address::of(alloc, &base)?;
+    let request = write_call(alloc, &address, &client, ask)?;
+    let has_message = method == "POST" || method == "PUT";
+    Ok(
+        request.method.as_slice() == method.as_bytes()
+            && request.path.as_slice() == path.as_bytes()
+            && request.client == client
+            && (request.body.len() > 0) == has_message,
+    )
+}
+
 #[test]
-fn calls_have_their_methods_and_paths(rt: HostRuntime) -> Result<(), Fail> {
-    let client = own(rt.alloc())?;
-    let base = Base::of(rt.alloc(), b"http://dss.test/x")?;
-    let address = Address::of(rt.alloc(), &base)?;
-    let mut index = 0;
-    while let Some((ask, method, path)) = call(rt.alloc(), index)? {
-        let request = write_call(rt.alloc(), &address, &client, &ask)?;
-        assert!(rt; request.method.as_slice() == method.as_bytes());
-        assert!(rt; request.path.as_slice() == path.as_bytes());
-        assert!(rt; request.client == client);
-        let has_message = method == "POST" || method == "PUT";
-        assert!(rt; (request.body.len() > 0) == has_message);
-        index = index.wrapping_add(1);
-    }
-    assert!(rt; index == 8);
+fn queries_go_out(rt: HostRuntime) -> Result<(), Fail> {
+    let query = DssAsk::Query {
+        area: area(rt.alloc(), 0)?,
+    };
+    let path = "/x/dss/v1/operational_intent_references/query";
+    assert!(rt; goes_out(rt.alloc(), &query, "POST", path)?);
+    Ok(())
+}
+
+#[test]
+fn calls_of_references_go_out(rt: HostRuntime) -> Result<(), Fail> {
+    let get = DssAsk::Get { flight: flight(1) };
+    let path = "/x/dss/v1/operational_intent_references/00000001-0000-4000-8000-000000000001";
+    assert!(rt; goes_out(rt.alloc(), &get, "GET", path)?);
+    let creation = put(rt.alloc(), None)?;
+    assert!(rt; goes_out(rt.alloc(), &creation, "PUT", path)?);
+    Ok(())
+}
+
+#[test]
+fn calls_with_an_ovn_go_out(rt: HostRuntime) -> Result<(), Fail> {
+    let escaped = Ovn::of(rt.alloc(), b"ovn-00000000000000/%1")?;
+    let change = put(rt.alloc(), Some(escaped))?;
+    let path =
+        "/x/dss/v1/operational_intent_references/00000001-0000-4000-8000-000000000001/ovn-00000000000000%2F%251";
+    assert!(rt; goes_out(rt.alloc(), &change, "PUT", path)?);
+    let remove = DssAsk::Remove {
+        flight: flight(1),
+        ovn: Ovn::of(rt.alloc(), b"ovn-0000000000000001")?,
+    };
+    let path =
+        "/x/dss/v1/operational_intent_references/00000001-0000-4000-8000-000000000001/ovn-0000000000000001";
+    assert!(rt; goes_out(rt.alloc(), &remove, "DELETE", path)?);
+    Ok(())
+}
+
+#[test]
+fn calls_of_tickets_go_out(rt: HostRuntime) -> Result<(), Fail> {
+    let path = "/x/dss/v1/subscriptions/00000001-0001-4000-8000-000000000001";
+    let make = DssAsk::TicketPut {
+        ticket: ticket(1),
+        area: area(rt.alloc(), 0)?,
+        base: base(rt.alloc())?,
+    };
+    assert!(rt; goes_out(rt.alloc(), &make, "PUT", path)?);
+    let get = DssAsk::TicketGet { ticket: ticket(1) };
+    assert!(rt; goes_out(rt.alloc(), &get, "GET", path)?);
+    let remove = DssAsk::TicketRemove {
+        ticket: ticket(1),
+        version: 1,
+    };
+    let path = "/x/dss/v1/subscriptions/00000001-0001-4000-8000-000000000001/1";
+    assert!(rt; goes_out(rt.alloc(), &remove, "DELETE", path)?);
     Ok(())
 }
