@@ -68,7 +68,7 @@ module _ {D : Type 0} (may_leave : D → List ℕ → Type 0) (is_honest : D →
         untried = λ none. whole.untried unspent;
         follows = subst (λ (t : Option Entry). IfSome t (MayFollow now)) (sym (whole.untried unspent)) tt;
         left = λ honest image may. inl (durable honest image may ∙ ap (λ (rs : List (List ℕ)). Ok rs) records);
-        agrees = λ honest image p. as_read now new.records new.tried tried image records done.settled p;
+        agrees = λ honest image p. as_read now new.records new.tried tried image records done.untried p;
       }
 
   pub faulted_whole : (fault_count : D → ℕ) (now : List Entry) → AppendFaulted fault_count old bytes new → now ≡ es

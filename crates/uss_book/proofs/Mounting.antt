@@ -64,10 +64,10 @@ module _ {D : Type 0} (may_leave : D → List ℕ → Type 0) (is_honest : D →
         untried = λ none. refl;
         follows = tt;
         left = λ honest image may. inl (durable honest image may);
-        agrees = λ honest image p. as_read kept new.records new.tried None image taken.records taken.settled p;
+        agrees = λ honest image p. as_read kept new.records new.tried None image taken.records taken.untried p;
       }
 
-  -- on an honest disk what is found is refused for want of memory alone
+  -- on an honest disk what is found is refused only when memory runs out
   for_memory : (file : List ℕ) (records : List (List ℕ)) (fault : BookFault) → is_honest old.disk → StandsFor records file → WithOrWithout old.records old.tried file → IsByRecords es records fault → IsOfReading fault
       → SaysNothing fault
   for_memory file records fault honest found kept by reading = go tried refl (whole.agrees honest file kept)
@@ -86,7 +86,7 @@ module _ {D : Type 0} (may_leave : D → List ℕ → Type 0) (is_honest : D →
   by_found file None fault honest stands kept by reading found = absurd (found by)
   by_found file (Some records) fault honest stands kept by reading found = for_memory file records fault honest stands kept by reading
 
-  -- on an honest disk a book is refused by a fault or for want of memory alone
+  -- on an honest disk a book is refused only by a fault or when memory runs out
   pub says_nothing : (fault_count : D → ℕ) (file : List ℕ) (found : Option (List (List ℕ))) (fault : BookFault) → is_honest old.disk → StaysKnown fault_count old fault new → NoPlace fault
       → IfSome found (λ records. StandsFor records file) → WithOrWithout old.records old.tried file → IsByFound es found fault → SaysNothing fault
   says_nothing fault_count file found DiskFault honest stays readable stands kept by = tt
@@ -97,7 +97,7 @@ module _ {D : Type 0} (may_leave : D → List ℕ → Type 0) (is_honest : D →
   says_nothing fault_count file found (OtherOwner owner) honest stays readable stands kept by = by_found file found (OtherOwner owner) honest stands kept by tt (λ u. u)
   says_nothing fault_count file found (Changed n) honest stays readable stands kept by = by_found file found (Changed n) honest stands kept by tt (λ u. u)
 
--- a book that is refused for want of memory leaves it so
+-- a book that is refused as out of memory leaves it so
 pub left_for_memory : (file after : List ℕ) (fault : BookFault) → SaysNothing fault → UnlessFault fault (IsLeft file after Memory) → IsLeft file after fault
 left_for_memory file after DiskFault nothing h = tt
 left_for_memory file after Memory nothing h = h

@@ -63,7 +63,7 @@ no_bad es n h b =
     slice_get-get_or (records_of es) n (coding_of d) b.within ∙ ap (λ (r : List ℕ). Some r) (get_or-map coding_of es n d (coding_of d) low) in
     b.bad x (subst (λ (l : List Entry). MayFollow l x) (sym same) m.0) found
 
--- a legal book that goes on from the known entries, and that is read again, is refused for want of memory alone
+-- a legal book that goes on from the known entries, and that is read again, is refused only when memory runs out
 pub read_on : (known more : List Entry) (fault : BookFault) → IsLegal (known ++ more) → IsByRecords known (records_of (known ++ more)) fault → IsOfReading fault → SaysNothing fault
 read_on known more (BadEntry n) legal h r = no_bad (known ++ more) n legal h
 read_on known more (OtherOwner kept) legal h r =

@@ -14,7 +14,7 @@ use Rattle.uss_book.specs.declared.refusal.BookRefusal.{BookRefusal}
 use Rattle.uss_book_index.specs.Known.{Known}
 use Rattle.uss_book.specs.Book.{BookView, IsBadEntry, IsOtherOwner}
 
--- the number under which a refusal is printed; want of memory has none
+-- the number under which a refusal is printed; out of memory has none
 abbrev pub number_of : BookFault → Option ℕ
 number_of DiskFault = Some 141
 number_of (NotAJournal place) = Some 143
@@ -29,7 +29,7 @@ pub record Entered {D : Type 0} (old : BookView D) (e : Entry) (new : BookView D
   pub unspent : old.spent ≡ None
   pub last : new.entries ≡ old.entries ++ e ∷ []
   pub reopened : new.spent ≡ None
-  pub settled : new.tried ≡ None
+  pub untried : new.tried ≡ None
   pub forgotten : new.found ≡ None
 
 -- a fault of the disk while an entry is entered: the count rose, the entries are those that were known, and the book is spent
@@ -51,7 +51,7 @@ EnterRefused fault_count old e (BadEntry n) new = ⊥
 EnterRefused fault_count old e (OtherOwner kept) new = ⊥
 EnterRefused fault_count old e (Changed n) new = ⊥
 
--- the records aren't those of a legal book, by this refusal; want of memory says nothing of them
+-- the records aren't those of a legal book, by this refusal; out of memory says nothing of them
 abbrev pub Misread : (records : List (List ℕ)) (fault : BookFault) → Type 0
 Misread records (BadEntry n) = IsBadEntry records n
 Misread records Memory = Unit {0}
@@ -87,7 +87,7 @@ pub record StandsForSome (file : List ℕ) (P : List (List ℕ) → Type 0) : Ty
   pub found : stands_for file ≡ Ok records
   pub so : P records
 
--- exactly where 143, 151 and 152 come; a fault and want of memory say nothing of the bytes
+-- exactly where 143, 151 and 152 come; a fault and out of memory say nothing of the bytes
 abbrev pub RefusedBy : (owner : Owner) (file : List ℕ) (fault : BookFault) → Type 0
 RefusedBy owner file (NotAJournal place) = stands_for file ≡ Err place
 RefusedBy owner file (BadEntry n) = StandsForSome file (λ records. IsBadEntry records n)
@@ -155,7 +155,7 @@ abbrev pub disk_read : {D : Type 0} → Result (JournalView D × Known) (BookRef
 disk_read (Ok found) = found.0.disk
 disk_read (Err refused) = refused.back
 
--- the refusal says nothing of the bytes: a fault of the disk, or want of memory
+-- the refusal says nothing of the bytes: a fault of the disk, or out of memory
 abbrev pub SaysNothing : BookFault → Type 0
 SaysNothing DiskFault = Unit {0}
 SaysNothing Memory = Unit {0}

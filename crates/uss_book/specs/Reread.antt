@@ -56,7 +56,7 @@ IsByRecords known records DiskFault = Unit {0}
 IsByRecords known records (NotAJournal place) = Unit {0}
 IsByRecords known records (Spent count) = Unit {0}
 
--- the refusal is one of those to which reading the records can come: 151, 152, 154 or want of memory
+-- the refusal is one of those to which reading the records can come: 151, 152, 154 or out of memory
 abbrev pub IsOfReading : BookFault → Type 0
 IsOfReading (BadEntry n) = Unit {0}
 IsOfReading (OtherOwner kept) = Unit {0}
@@ -76,7 +76,7 @@ NoPlace Memory = Unit {0}
 NoPlace DiskFault = Unit {0}
 NoPlace (Spent count) = Unit {0}
 
--- no records need have been found for it: 141, 143 or want of memory
+-- no records need have been found for it: 141, 143 or out of memory
 abbrev pub IsUnread : BookFault → Type 0
 IsUnread DiskFault = Unit {0}
 IsUnread (NotAJournal place) = Unit {0}
@@ -95,7 +95,7 @@ IsByFound known (Some records) fault = IsByRecords known records fault
 pub record IsTaken {D : Type 0} (entries : List Entry) (journal : JournalView D) : Type 0 where
   pub records : journal.records ≡ records_of entries
   pub reopened : journal.spent ≡ None
-  pub settled : journal.tried ≡ None
+  pub untried : journal.tried ≡ None
   pub forgotten : journal.found ≡ None
 
 -- the journal is as it was, but for its disk and what it found
@@ -118,7 +118,7 @@ StaysKnown fault_count old (Spent count) new = ⊥
 pub record Remounted {D : Type 0} (old new : BookView D) : Type 0 where
   pub begins : BeginsWith new.entries old.entries
   pub reopened : new.spent ≡ None
-  pub settled : new.tried ≡ None
+  pub untried : new.tried ≡ None
   pub forgotten : new.found ≡ None
 
 -- a book that wasn't mounted again has its entries, and the one that was tried

@@ -5,7 +5,7 @@ ghost use Rattle.uss_disk.specs.Disk.{bytes_of, CrashLeaves};
 ghost use Rattle.uss_journal.specs.Format.{stands_for};
 ghost use Rattle.uss_journal.specs.Journal.{mounted};
 ghost use Rattle.uss_law_book.specs.Lists.{owner_of};
-ghost use Rattle.uss_law_book.specs.Readings.{open_job_of, last_of, trials_of, owns};
+ghost use Rattle.uss_law_book.specs.Contents.{open_job_of, last_of, trials_of, owns};
 ghost use Rattle.uss_law_book.specs.Attempts.{held};
 ghost use Rattle.uss_law_book.specs.Coding.{HasCoding, journal_length};
 ghost use Rattle.uss_law_book.specs.Legal.{MayFollow, IsLegal};
@@ -228,7 +228,7 @@ impl<D: Disk> Book<D> {
         ensures honest { D.is_honest self.new.disk ↔ D.is_honest self.old.disk }
 
         // On an honest disk the entries are those before it, or these with the one that was tried, and it is refused by a fault or for
-        // want of memory alone.
+        // out of memory.
         ensures found { D.is_honest self.old.disk → MatchResult result (λ _. StandsForBook self.new.entries (bytes_of (D.reads self.old.disk))) SaysNothing }
         ensures kept { D.is_honest self.old.disk → BookWithOrWithout self.old.entries self.old.tried (bytes_of (D.reads self.old.disk)) }
         ensures file { D.is_honest self.old.disk → OnOk result (bytes_of (D.reads self.new.disk) ≡ mounted (bytes_of (D.reads self.old.disk))) }

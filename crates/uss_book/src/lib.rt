@@ -8,7 +8,7 @@
 //!     book.enter(entry)?; // durable at Ok; after a fault of the disk `remount` finds whether it is there
 //! }
 //! let job = book.live_job(flight);
-//! let attempt = book.entries().last_attempt(1); // all else that is told, by the entries' index
+//! let attempt = book.entries().last_trial(1); // all else that is told, by the entries' index
 //! ```
 #![tactic(auto)]
 

@@ -29,7 +29,7 @@ impl BookFault {
     ghost use Rattle.std.specs.Prelude.{◌≡◌};
     ghost use Rattle.uss_book.specs.Refusal.{number_of};
 
-    /// The number under which the refusal is printed: 141, 143, 144, 151, 152 or 154, none for want of memory.
+    /// The number under which the refusal is printed: 141, 143, 144, 151, 152 or 154, none for out of memory.
     pub fn number(&self) -> Option<u16>
         ensures { result ≡ number_of self.now }
     {
@@ -56,7 +56,7 @@ impl From<AllocError> for BookFault {
 /// A book couldn't be mounted: why, and the disk that was given.
 #[derive(Debug, Drop)]
 pub struct BookRefusal<D> {
-    /// Why: 141, 143, 151, 152 or want of memory.
+    /// Why: 141, 143, 151, 152 or out of memory.
     pub refusal: BookFault,
     /// The disk.
     pub back: D,

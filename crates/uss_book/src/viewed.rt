@@ -14,7 +14,7 @@ use uss_event::Entries;
 use uss_intent::Sequence;
 
 /// The entries of the book that the disk's file holds, whoever owns it, and the disk. An empty journal has none. The refusals are 141,
-/// 143, 151 and want of memory, as those of a mount, and hand the disk back. The file stays, but that one of at most nine bytes is made a
+/// 143, 151 and out of memory, as those of a mount, and hand the disk back. The file stays, but that one of at most nine bytes is made a
 /// new, empty journal.
 pub fn view<D: Disk>(alloc: Global, disk: D) -> Result<(Entries, D), BookRefusal<D>>
     ensures refused { IfErr result (λ r. ViewRefused (D.fault_count disk) (D.fault_count r.back) r.refusal) }

@@ -122,48 +122,48 @@ of_owner o =
 
 of_fields : (e : Entry) → length (fields_of e) + 1 ≡ coding_length e
 of_fields (Enters.Owner o) = of_owner o
-of_fields (Opened job moment a) =
+of_fields (Opened o) =
     omega (
       arith,
-      length-append (in_8_bytes job) (signed_in_8_bytes moment ++ ask a),
-      length-append (signed_in_8_bytes moment) (ask a),
-      length-append (in_8_bytes a.flight) (in_8_bytes a.number ++ wish a.wish),
-      length-append (in_8_bytes a.number) (wish a.wish),
-      eight job,
-      signed_eight moment,
-      eight a.flight,
-      eight a.number,
-      of_wish a.wish,
+      length-append (in_8_bytes o.job) (signed_in_8_bytes o.moment ++ ask o.ask),
+      length-append (signed_in_8_bytes o.moment) (ask o.ask),
+      length-append (in_8_bytes o.ask.flight) (in_8_bytes o.ask.number ++ wish o.ask.wish),
+      length-append (in_8_bytes o.ask.number) (wish o.ask.wish),
+      eight o.job,
+      signed_eight o.moment,
+      eight o.ask.flight,
+      eight o.ask.number,
+      of_wish o.ask.wish,
     )
 of_fields (TicketOpen job) = omega (arith, eight job)
-of_fields (Pending job tag alternative previous key) =
+of_fields (Pending t) =
     omega (
       arith,
-      length-append (in_8_bytes job) (in_8_bytes tag ++ (alternative ∷ (optional text previous ++ list text key))),
-      length-append (in_8_bytes tag) (alternative ∷ (optional text previous ++ list text key)),
-      length-append (optional text previous) (list text key),
-      eight job,
-      eight tag,
-      of_option previous,
-      of_texts key,
+      length-append (in_8_bytes t.job) (in_8_bytes t.tag ++ (t.alternative ∷ (optional text t.previous ++ list text t.key))),
+      length-append (in_8_bytes t.tag) (t.alternative ∷ (optional text t.previous ++ list text t.key)),
+      length-append (optional text t.previous) (list text t.key),
+      eight t.job,
+      eight t.tag,
+      of_option t.previous,
+      of_texts t.key,
     )
-of_fields (Held job tag ovn version owed) =
+of_fields (Held h) =
     omega (
       arith,
-      length-append (in_8_bytes job) (in_8_bytes tag ++ (text ovn ++ (in_4_bytes version ++ list subscriber owed))),
-      length-append (in_8_bytes tag) (text ovn ++ (in_4_bytes version ++ list subscriber owed)),
-      length-append (text ovn) (in_4_bytes version ++ list subscriber owed),
-      length-append (in_4_bytes version) (list subscriber owed),
-      eight job,
-      eight tag,
-      of_text ovn,
-      four version,
-      of_owed owed,
+      length-append (in_8_bytes h.job) (in_8_bytes h.tag ++ (text h.ovn ++ (in_4_bytes h.version ++ list subscriber h.owed))),
+      length-append (in_8_bytes h.tag) (text h.ovn ++ (in_4_bytes h.version ++ list subscriber h.owed)),
+      length-append (text h.ovn) (in_4_bytes h.version ++ list subscriber h.owed),
+      length-append (in_4_bytes h.version) (list subscriber h.owed),
+      eight h.job,
+      eight h.tag,
+      of_text h.ovn,
+      four h.version,
+      of_owed h.owed,
     )
-of_fields (Deciding job end) = omega (arith, length-append (in_8_bytes job) (ending end), eight job, of_ending end)
-of_fields (Done job end) = omega (arith, length-append (in_8_bytes job) (ending end), eight job, of_ending end)
+of_fields (Deciding d) = omega (arith, length-append (in_8_bytes d.job) (ending d.end), eight d.job, of_ending d.end)
+of_fields (Done d) = omega (arith, length-append (in_8_bytes d.job) (ending d.end), eight d.job, of_ending d.end)
 of_fields (TicketGone job) = omega (arith, eight job)
-of_fields (Sent job place) = omega (arith, length-append (in_8_bytes job) (in_4_bytes place), eight job, four place)
+of_fields (Sent n) = omega (arith, length-append (in_8_bytes n.job) (in_4_bytes n.index), eight n.job, four n.index)
 
 pub length-coding_of : (e : Entry) → length (coding_of e) ≡ coding_length e
 unfolding coding_of

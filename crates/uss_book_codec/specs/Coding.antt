@@ -58,26 +58,26 @@ ending (Ended owed) = 4 ∷ list subscriber owed
 -- 1 to 9
 abbrev pub kind_of : Entry → ℕ
 kind_of (Enters.Owner o) = 1
-kind_of (Opened job moment a) = 2
+kind_of (Opened o) = 2
 kind_of (TicketOpen job) = 3
-kind_of (Pending job tag alternative previous key) = 4
-kind_of (Held job tag ovn version owed) = 5
-kind_of (Deciding job end) = 6
-kind_of (Done job end) = 7
+kind_of (Pending t) = 4
+kind_of (Held h) = 5
+kind_of (Deciding d) = 6
+kind_of (Done d) = 7
 kind_of (TicketGone job) = 8
-kind_of (Sent job place) = 9
+kind_of (Sent n) = 9
 
 abbrev pub fields_of : Entry → List ℕ
 fields_of (Enters.Owner o) = owner o
-fields_of (Opened job moment a) = in_8_bytes job ++ (signed_in_8_bytes moment ++ ask a)
+fields_of (Opened o) = in_8_bytes o.job ++ (signed_in_8_bytes o.moment ++ ask o.ask)
 fields_of (TicketOpen job) = in_8_bytes job
-fields_of (Pending job tag alternative previous key) =
-    in_8_bytes job ++ (in_8_bytes tag ++ (in_1_byte alternative ++ (optional text previous ++ list text key)))
-fields_of (Held job tag ovn version owed) = in_8_bytes job ++ (in_8_bytes tag ++ (text ovn ++ (in_4_bytes version ++ list subscriber owed)))
-fields_of (Deciding job end) = in_8_bytes job ++ ending end
-fields_of (Done job end) = in_8_bytes job ++ ending end
+fields_of (Pending t) =
+    in_8_bytes t.job ++ (in_8_bytes t.tag ++ (in_1_byte t.alternative ++ (optional text t.previous ++ list text t.key)))
+fields_of (Held h) = in_8_bytes h.job ++ (in_8_bytes h.tag ++ (text h.ovn ++ (in_4_bytes h.version ++ list subscriber h.owed)))
+fields_of (Deciding d) = in_8_bytes d.job ++ ending d.end
+fields_of (Done d) = in_8_bytes d.job ++ ending d.end
 fields_of (TicketGone job) = in_8_bytes job
-fields_of (Sent job place) = in_8_bytes job ++ in_4_bytes place
+fields_of (Sent n) = in_8_bytes n.job ++ in_4_bytes n.index
 
 unfoldable pub coding_of : Entry → List ℕ
 coding_of e = kind_of e ∷ fields_of e

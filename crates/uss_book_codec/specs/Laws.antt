@@ -70,7 +70,7 @@ coded_known {A} meaning number fits there back = record {
       rw (coded_in_1_byte.again (number x) rest t.1, t.0) refl;
 }
 
--- a value behind the byte for its kind
+-- a value after the byte for its kind
 module _ {A B : Type 0} {fits : A → Type 0} {spelling : A → List ℕ} {reading : Reading A} (make : A → B) (Fits : B → Type 0) (code : B → List ℕ) (kind : ℕ) where
   found_behind : IsCoded fits spelling reading → ((a : A) → code (make a) ≡ kind ∷ spelling a) → ((a : A) → fits a → Fits (make a))
       → (bytes : List ℕ) (x : B) (rest : List ℕ) → AreBytes (kind ∷ bytes) → made_at make reading bytes ≡ Some (x, rest) → (kind ∷ bytes ≡ code x ++ rest) × Fits x
@@ -333,18 +333,18 @@ behind_found : (kind : ℕ) (bytes : List ℕ) (x : Entry) (rest : List ℕ) →
 unfolding fields_at coding_of
 behind_found zero bytes x rest are e = absurd cc
 behind_found (suc zero) bytes x rest are e = found_behind Enters.Owner HasCoding coding_of 1 coded_owner (λ t. refl) (λ t h. h) bytes x rest are e
-behind_found (suc (suc zero)) bytes x rest are e = found_behind (λ t. Opened t.0 t.1.0 t.1.1) HasCoding coding_of 2 coded_opened (λ t. refl) (λ t h. (h.0, h.1.0, h.1.1)) bytes x rest are e
+behind_found (suc (suc zero)) bytes x rest are e = found_behind (λ t. Opened (record { job = t.0; moment = t.1.0; ask = t.1.1 })) HasCoding coding_of 2 coded_opened (λ t. refl) (λ t h. (h.0, h.1.0, h.1.1)) bytes x rest are e
 behind_found (suc (suc (suc zero))) bytes x rest are e = found_behind TicketOpen HasCoding coding_of 3 coded_in_8_bytes (λ t. refl) (λ t h. h) bytes x rest are e
 behind_found (suc (suc (suc (suc zero)))) bytes x rest are e =
-    found_behind (λ t. Pending t.0 t.1.0 t.1.1.0 t.1.1.1.0 t.1.1.1.1) HasCoding coding_of 4 coded_pending (λ t. refl)
+    found_behind (λ t. Pending (record { job = t.0; tag = t.1.0; alternative = t.1.1.0; previous = t.1.1.1.0; key = t.1.1.1.1 })) HasCoding coding_of 4 coded_pending (λ t. refl)
     (λ t h. record { job_fits = h.0; tag_fits = h.1.0; alternative_fits = h.1.1.0; valid_previous = h.1.1.1.0; few = h.1.1.1.1.0; valid_key = h.1.1.1.1.1 }) bytes x rest are e
 behind_found (suc (suc (suc (suc (suc zero))))) bytes x rest are e =
-    found_behind (λ t. Held t.0 t.1.0 t.1.1.0 t.1.1.1.0 t.1.1.1.1) HasCoding coding_of 5 coded_held (λ t. refl)
+    found_behind (λ t. Held (record { job = t.0; tag = t.1.0; ovn = t.1.1.0; version = t.1.1.1.0; owed = t.1.1.1.1 })) HasCoding coding_of 5 coded_held (λ t. refl)
     (λ t h. record { job_fits = h.0; tag_fits = h.1.0; valid_ovn = h.1.1.0; version_fits = h.1.1.1.0; valid_owed = h.1.1.1.1 }) bytes x rest are e
-behind_found (suc (suc (suc (suc (suc (suc zero)))))) bytes x rest are e = found_behind (λ t. Deciding t.0 t.1) HasCoding coding_of 6 coded_deciding (λ t. refl) (λ t h. (h.0, h.1)) bytes x rest are e
-behind_found (suc (suc (suc (suc (suc (suc (suc zero))))))) bytes x rest are e = found_behind (λ t. Done t.0 t.1) HasCoding coding_of 7 coded_done (λ t. refl) (λ t h. (h.0, h.1)) bytes x rest are e
+behind_found (suc (suc (suc (suc (suc (suc zero)))))) bytes x rest are e = found_behind (λ t. Deciding (record { job = t.0; end = t.1 })) HasCoding coding_of 6 coded_deciding (λ t. refl) (λ t h. (h.0, h.1)) bytes x rest are e
+behind_found (suc (suc (suc (suc (suc (suc (suc zero))))))) bytes x rest are e = found_behind (λ t. Done (record { job = t.0; end = t.1 })) HasCoding coding_of 7 coded_done (λ t. refl) (λ t h. (h.0, h.1)) bytes x rest are e
 behind_found (suc (suc (suc (suc (suc (suc (suc (suc zero)))))))) bytes x rest are e = found_behind TicketGone HasCoding coding_of 8 coded_in_8_bytes (λ t. refl) (λ t h. h) bytes x rest are e
-behind_found (suc (suc (suc (suc (suc (suc (suc (suc (suc zero))))))))) bytes x rest are e = found_behind (λ t. Sent t.0 t.1) HasCoding coding_of 9 coded_sent (λ t. refl) (λ t h. (h.0, h.1)) bytes x rest are e
+behind_found (suc (suc (suc (suc (suc (suc (suc (suc (suc zero))))))))) bytes x rest are e = found_behind (λ t. Sent (record { job = t.0; index = t.1 })) HasCoding coding_of 9 coded_sent (λ t. refl) (λ t h. (h.0, h.1)) bytes x rest are e
 behind_found (suc (suc (suc (suc (suc (suc (suc (suc (suc (suc kind)))))))))) bytes x rest are e = absurd cc
 
 entry_found : (bytes : List ℕ) (x : Entry) (rest : List ℕ) → AreBytes bytes → entry_at bytes ≡ Some (x, rest) → (bytes ≡ coding_of x ++ rest) × HasCoding x
@@ -358,17 +358,17 @@ entry_found bytes x rest are e =
 entry_again : (x : Entry) (rest : List ℕ) → HasCoding x → entry_at (coding_of x ++ rest) ≡ Some (x, rest)
 unfolding entry_at fields_at coding_of in_1_byte_at
 entry_again (Enters.Owner o) rest h = made_again Enters.Owner coded_owner o rest h
-entry_again (Opened job moment a) rest h = made_again (λ t. Opened t.0 t.1.0 t.1.1) coded_opened (job, (moment, a)) rest (h.0, (h.1, h.2))
+entry_again (Opened o) rest h = made_again (λ t. Opened (record { job = t.0; moment = t.1.0; ask = t.1.1 })) coded_opened (o.job, (o.moment, o.ask)) rest (h.0, (h.1, h.2))
 entry_again (TicketOpen job) rest h = made_again TicketOpen coded_in_8_bytes job rest h
-entry_again (Pending job tag alternative previous key) rest h =
-    made_again (λ t. Pending t.0 t.1.0 t.1.1.0 t.1.1.1.0 t.1.1.1.1) coded_pending (job, (tag, (alternative, (previous, key)))) rest
+entry_again (Pending trial) rest h =
+    made_again (λ t. Pending (record { job = t.0; tag = t.1.0; alternative = t.1.1.0; previous = t.1.1.1.0; key = t.1.1.1.1 })) coded_pending (trial.job, (trial.tag, (trial.alternative, (trial.previous, trial.key)))) rest
     (h.job_fits, (h.tag_fits, (h.alternative_fits, (h.valid_previous, (h.few, h.valid_key)))))
-entry_again (Held job tag ovn version owed) rest h =
-    made_again (λ t. Held t.0 t.1.0 t.1.1.0 t.1.1.1.0 t.1.1.1.1) coded_held (job, (tag, (ovn, (version, owed)))) rest (h.job_fits, (h.tag_fits, (h.valid_ovn, (h.version_fits, h.valid_owed))))
-entry_again (Deciding job end) rest h = made_again (λ t. Deciding t.0 t.1) coded_deciding (job, end) rest (h.0, h.1)
-entry_again (Done job end) rest h = made_again (λ t. Done t.0 t.1) coded_done (job, end) rest (h.0, h.1)
+entry_again (Held holding) rest h =
+    made_again (λ t. Held (record { job = t.0; tag = t.1.0; ovn = t.1.1.0; version = t.1.1.1.0; owed = t.1.1.1.1 })) coded_held (holding.job, (holding.tag, (holding.ovn, (holding.version, holding.owed)))) rest (h.job_fits, (h.tag_fits, (h.valid_ovn, (h.version_fits, h.valid_owed))))
+entry_again (Deciding d) rest h = made_again (λ t. Deciding (record { job = t.0; end = t.1 })) coded_deciding (d.job, d.end) rest (h.0, h.1)
+entry_again (Done d) rest h = made_again (λ t. Done (record { job = t.0; end = t.1 })) coded_done (d.job, d.end) rest (h.0, h.1)
 entry_again (TicketGone job) rest h = made_again TicketGone coded_in_8_bytes job rest h
-entry_again (Sent job place) rest h = made_again (λ t. Sent t.0 t.1) coded_sent (job, place) rest (h.0, h.1)
+entry_again (Sent n) rest h = made_again (λ t. Sent (record { job = t.0; index = t.1 })) coded_sent (n.job, n.index) rest (h.0, h.1)
 
 pub coded_entry : IsCoded HasCoding coding_of entry_at
 coded_entry = record { found = entry_found; again = entry_again }

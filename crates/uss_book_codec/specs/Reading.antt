@@ -157,14 +157,14 @@ sent_at bytes = both_at in_8_bytes_at in_4_bytes_at bytes
 unfoldable pub fields_at : ℕ → Reading Entry
 fields_at zero rest = None
 fields_at (suc zero) rest = made_at Enters.Owner owner_at rest
-fields_at (suc (suc zero)) rest = made_at (λ t. Opened t.0 t.1.0 t.1.1) opened_at rest
+fields_at (suc (suc zero)) rest = made_at (λ t. Opened (record { job = t.0; moment = t.1.0; ask = t.1.1 })) opened_at rest
 fields_at (suc (suc (suc zero))) rest = made_at TicketOpen in_8_bytes_at rest
-fields_at (suc (suc (suc (suc zero)))) rest = made_at (λ t. Pending t.0 t.1.0 t.1.1.0 t.1.1.1.0 t.1.1.1.1) pending_at rest
-fields_at (suc (suc (suc (suc (suc zero))))) rest = made_at (λ t. Held t.0 t.1.0 t.1.1.0 t.1.1.1.0 t.1.1.1.1) held_at rest
-fields_at (suc (suc (suc (suc (suc (suc zero)))))) rest = made_at (λ t. Deciding t.0 t.1) deciding_at rest
-fields_at (suc (suc (suc (suc (suc (suc (suc zero))))))) rest = made_at (λ t. Done t.0 t.1) done_at rest
+fields_at (suc (suc (suc (suc zero)))) rest = made_at (λ t. Pending (record { job = t.0; tag = t.1.0; alternative = t.1.1.0; previous = t.1.1.1.0; key = t.1.1.1.1 })) pending_at rest
+fields_at (suc (suc (suc (suc (suc zero))))) rest = made_at (λ t. Held (record { job = t.0; tag = t.1.0; ovn = t.1.1.0; version = t.1.1.1.0; owed = t.1.1.1.1 })) held_at rest
+fields_at (suc (suc (suc (suc (suc (suc zero)))))) rest = made_at (λ t. Deciding (record { job = t.0; end = t.1 })) deciding_at rest
+fields_at (suc (suc (suc (suc (suc (suc (suc zero))))))) rest = made_at (λ t. Done (record { job = t.0; end = t.1 })) done_at rest
 fields_at (suc (suc (suc (suc (suc (suc (suc (suc zero)))))))) rest = made_at TicketGone in_8_bytes_at rest
-fields_at (suc (suc (suc (suc (suc (suc (suc (suc (suc zero))))))))) rest = made_at (λ t. Sent t.0 t.1) sent_at rest
+fields_at (suc (suc (suc (suc (suc (suc (suc (suc (suc zero))))))))) rest = made_at (λ t. Sent (record { job = t.0; index = t.1 })) sent_at rest
 fields_at (suc (suc (suc (suc (suc (suc (suc (suc (suc (suc kind)))))))))) rest = None
 
 unfoldable pub entry_at : Reading Entry

@@ -28,7 +28,7 @@ ticket_open_bytes = 3 ∷ 0 ∷ 0 ∷ 0 ∷ 0 ∷ 0 ∷ 0 ∷ 0 ∷ 1 ∷ []
 
 -- a job is opened on 2000-01-01, for a request that a flight goes to this state at priority 1000, in 16 rounds, without an alternative
 abbrev pub opened : State → Entry
-opened to = Opened 2 (pos 946684800000000000) (record { flight = 3; number = 4; wish = Put to 1000 16 [] })
+opened to = Opened (record { job = 2; moment = pos 946684800000000000; ask = record { flight = 3; number = 4; wish = Put to 1000 16 [] } })
 
 -- the job, the moment, the flight, the request's number; that it is no end, the state, the priority in two bytes, the rounds, and that
 -- there is no alternative
@@ -40,11 +40,11 @@ opened_bytes state =
 abbrev pub subscriber : Subscriber
 subscriber = record { base = codes "http://b.test"; ticket = 129127208515966861320; index = 9 }
 
--- a job recorded its attempt with tag 6, and one subscriber is to be told
+-- a job recorded its attempt with tag 6, and one subscriber is to be notified
 abbrev pub held : Entry
-held = Held 5 6 (codes "ovn-0000000000000001") 10 (subscriber ∷ [])
+held = Held (record { job = 5; tag = 6; ovn = codes "ovn-0000000000000001"; version = 10; owed = subscriber ∷ [] })
 
--- the job, the tag, the OVN behind its length, the version; how many are to be told, and of the one the base URL behind its length,
+-- the job, the tag, the OVN after its length, the version; how many are to be notified, and of the one the base URL after its length,
 -- the halves of the ticket, the index
 abbrev pub held_bytes : List ℕ
 held_bytes =
@@ -53,9 +53,9 @@ held_bytes =
 
 -- a job ended, since a flight with 12 in its higher half and 13 in its lower stands against it, by this rule
 abbrev pub done : Verdict → Entry
-done rule = Done 11 (Conflict 221360928884514619405 (codes "them") rule)
+done rule = Done (record { job = 11; end = Conflict 221360928884514619405 (codes "them") rule })
 
--- the job; that it is a conflict, the halves of the flight, the manager behind its length, the rule
+-- the job; that it is a conflict, the halves of the flight, the manager after its length, the rule
 abbrev pub done_bytes : ℕ → List ℕ
 done_bytes rule = 7 ∷ eight 11 ++ (1 ∷ eight 12) ++ eight 13 ++ four 4 ++ codes "them" ++ (rule ∷ [])
 
@@ -63,15 +63,15 @@ done_bytes rule = 7 ∷ eight 11 ++ (1 ∷ eight 12) ++ eight 13 ++ four 4 ++ co
 abbrev pub owner : Entry
 owner = Enters.Owner (record { number = 16909060; name = codes "uss"; base = codes "http://u.test"; table = 5 ∷ 1000 ∷ [] })
 
--- the number, the name and the base URL behind their lengths; how many priorities, and each in two bytes
+-- the number, the name and the base URL after their lengths; how many priorities, and each in two bytes
 abbrev pub owner_bytes : List ℕ
 owner_bytes = 1 ∷ 1 ∷ 2 ∷ 3 ∷ 4 ∷ four 3 ++ codes "uss" ++ four 13 ++ codes "http://u.test" ++ four 2 ++ (0 ∷ 5 ∷ 3 ∷ 232 ∷ [])
 
 -- a job is opened to end a flight
 abbrev pub opened_to_end : Entry
-opened_to_end = Opened 14 (pos 946684800000000015) (record { flight = 16; number = 17; wish = End })
+opened_to_end = Opened (record { job = 14; moment = pos 946684800000000015; ask = record { flight = 16; number = 17; wish = End } })
 
--- an instant of 2000-01-01, so many ns behind midnight
+-- an instant of 2000-01-01, so many ns after midnight
 abbrev pub instant : ℕ → List ℕ
 instant n = 13 ∷ 35 ∷ 76 ∷ 207 ∷ 82 ∷ 67 ∷ 0 ∷ n ∷ []
 
@@ -115,10 +115,14 @@ far_bytes =
 -- a job is opened for a request with two alternatives: one has a volume, the other an off-nominal volume. 780 has the bytes 3 and 12
 abbrev pub opened_to_put : Entry
 opened_to_put =
-    Opened 23 (pos 946684800000000024) (record {
-      flight = 25;
-      number = 26;
-      wish = Put States.Contingent 780 6 (record { volumes = near ∷ []; off_nominal = [] } ∷ record { volumes = []; off_nominal = far ∷ [] } ∷ []);
+    Opened (record {
+      job = 23;
+      moment = pos 946684800000000024;
+      ask = record {
+        flight = 25;
+        number = 26;
+        wish = Put States.Contingent 780 6 (record { volumes = near ∷ []; off_nominal = [] } ∷ record { volumes = []; off_nominal = far ∷ [] } ∷ []);
+      };
     })
 
 -- the job, the moment, the flight, the request's number; that it is no end, the state, the priority, the rounds, and that there are two
@@ -130,9 +134,9 @@ opened_to_put_bytes =
 
 -- a job's attempt to change what is recorded, with two OVNs in its key
 abbrev pub pending : Entry
-pending = Pending 27 28 29 (Some (codes "ovn-0000000000000002")) (codes "ovn-00000000000000003" ∷ codes "ovn-000000000000000004" ∷ [])
+pending = Pending (record { job = 27; tag = 28; alternative = 29; previous = Some (codes "ovn-0000000000000002"); key = codes "ovn-00000000000000003" ∷ codes "ovn-000000000000000004" ∷ [] })
 
--- the job, the tag, the alternative; that there is a previous OVN, and that behind its length; how many are in the key, and each behind
+-- the job, the tag, the alternative; that there is a previous OVN, and that after its length; how many are in the key, and each after
 -- its length
 abbrev pub pending_bytes : List ℕ
 pending_bytes =
@@ -141,7 +145,7 @@ pending_bytes =
 
 -- a job's attempt to create what isn't recorded, with an empty key
 abbrev pub creating : Entry
-creating = Pending 30 31 32 None []
+creating = Pending (record { job = 30; tag = 31; alternative = 32; previous = None; key = [] })
 
 -- the job, the tag, the alternative; that there is no previous OVN, and none in the key
 abbrev pub creating_bytes : List ℕ
@@ -149,23 +153,23 @@ creating_bytes = 4 ∷ eight 30 ++ eight 31 ++ (32 ∷ 0 ∷ four 0)
 
 -- two flights, with 19 and 21 in their higher halves, and 20 and 22 in their lower, were missing
 abbrev pub deciding : Entry
-deciding = Deciding 33 (Stale (350488137400481480724 ∷ 387381625547900583958 ∷ []))
+deciding = Deciding (record { job = 33; end = Stale (350488137400481480724 ∷ 387381625547900583958 ∷ []) })
 
 -- the job; that the key was stale, how many flights were missing, and the halves of each
 abbrev pub deciding_bytes : List ℕ
 deciding_bytes = 6 ∷ eight 33 ++ (2 ∷ four 2) ++ eight 19 ++ eight 20 ++ eight 21 ++ eight 22
 
 abbrev pub cancelled : Entry
-cancelled = Deciding 34 Cancelled
+cancelled = Deciding (record { job = 34; end = Cancelled })
 
 abbrev pub cancelled_bytes : List ℕ
 cancelled_bytes = 6 ∷ eight 34 ++ (3 ∷ [])
 
--- a job ended its flight, and one subscriber is to be told
+-- a job ended its flight, and one subscriber is to be notified
 abbrev pub ended : Entry
-ended = Done 35 (Ended (subscriber ∷ []))
+ended = Done (record { job = 35; end = Ended (subscriber ∷ []) })
 
--- the job; that the flight ended, how many are to be told, and of the one the base URL behind its length, the halves of the ticket, the
+-- the job; that the flight ended, how many are to be notified, and of the one the base URL after its length, the halves of the ticket, the
 -- index
 abbrev pub ended_bytes : List ℕ
 ended_bytes = 7 ∷ eight 35 ++ (4 ∷ four 1) ++ four 13 ++ codes "http://b.test" ++ eight 7 ++ eight 8 ++ eight 9
@@ -179,7 +183,7 @@ ticket_gone_bytes = 8 ∷ eight 36
 
 -- what a job owes was answered, at a place
 abbrev pub sent : Entry
-sent = Sent 37 38
+sent = Sent (record { job = 37; index = 38 })
 
 -- the job, the place
 abbrev pub sent_bytes : List ℕ

@@ -148,7 +148,7 @@ pub(crate) fn put_ask(value: &FlightAsk, out: &mut Vec<u8>) -> Result<(), AllocE
     put_wish(&value.wish, out)
 }
 
-/// The request at the front, and the bytes behind it.
+/// The request at the start, and the bytes after it.
 #[tactic(auto, unfolding(crate::specs::Reading::ask_at))]
 pub(crate) fn take_ask(alloc: Global, bytes: &[u8]) -> Result<(FlightAsk, &[u8]), Unread>
     ensures { Gives (λ x. (x.0, x.1.now)) result (ask_at bytes.now) }

@@ -33,7 +33,7 @@ fn all(alloc: Global, bytes: &[u8]) -> Result<Entry, Unread>
     Ok(entry)
 }
 
-/// The entry whose coding these bytes are, and none where they aren't the coding of one: where bytes are missing or stand behind it,
+/// The entry whose coding these bytes are, and none where they aren't the coding of one: where bytes are missing or stand after it,
 /// a value is beyond its limits, or a kind is unknown.
 pub fn read(alloc: Global, bytes: &[u8]) -> Result<Option<Entry>, AllocError>
     // What is read has a coding, and the bytes are that.

@@ -1,4 +1,4 @@
-// How jobs end, and who is to be told, as bytes.
+// How jobs end, and who is to be notified, as bytes.
 ghost use Rattle.std.specs.Prelude.{◌≡◌, ◌<◌, ◌^◌, ◌++◌, All, OnOk};
 ghost use Rattle.std.specs.List.{flat_map};
 ghost use Rattle.uss_intent.specs.Texts.{IsName};
@@ -70,7 +70,7 @@ fn take_each_subscriber(
     Ok((items, rest))
 }
 
-/// Writes who is to be told.
+/// Writes who is to be notified.
 pub(crate) fn put_owed(values: &Owed, out: &mut Vec<u8>) -> Result<(), AllocError>
     requires { AreOwed values.now }
     ensures { OnOk result (out.new.items ≡ out.old.items ++ list subscriber values.now) }
@@ -79,7 +79,7 @@ pub(crate) fn put_owed(values: &Owed, out: &mut Vec<u8>) -> Result<(), AllocErro
     put_each_subscriber(values.as_slice(), out)
 }
 
-/// Who is to be told, at most 8,192, and the bytes behind it.
+/// Who is to be notified, at most 8,192, and the bytes after it.
 #[tactic(auto, unfolding(crate::specs::Reading::owed_at, uss_codec::specs::Reading::counted_at))]
 pub(crate) fn take_owed(alloc: Global, bytes: &[u8]) -> Result<(Owed, &[u8]), Unread>
     ensures { Gives (λ x. (x.0, x.1.now)) result (owed_at bytes.now) }
@@ -170,7 +170,7 @@ fn take_ended(alloc: Global, bytes: &[u8]) -> Result<(Ending, &[u8]), Unread>
     Ok((Ending::Ended { owed }, rest))
 }
 
-/// How a job ends, and the bytes behind it.
+/// How a job ends, and the bytes after it.
 #[tactic(auto, unfolding(crate::specs::Reading::ending_at))]
 pub(crate) fn take_ending(alloc: Global, bytes: &[u8]) -> Result<(Ending, &[u8]), Unread>
     ensures { Gives (λ x. (x.0, x.1.now)) result (ending_at bytes.now) }
@@ -190,7 +190,7 @@ fn is_decision(value: &Ending) -> bool
     !matches!(value, Ending::Ended { .. })
 }
 
-/// How a job is to end that makes no further attempt, and the bytes behind it.
+/// How a job is to end that makes no further attempt, and the bytes after it.
 #[tactic(auto, unfolding(crate::specs::Reading::decision_at))]
 pub(crate) fn take_decision(alloc: Global, bytes: &[u8]) -> Result<(Ending, &[u8]), Unread>
     ensures { Gives (λ x. (x.0, x.1.now)) result (decision_at bytes.now) }

@@ -15,7 +15,7 @@ use crate::owner::{put_owner, take_owner};
 use crate::values::take_instant;
 use std::alloc::{AllocError, Global};
 use uss_codec::{Coded, Unread, put_list, put_option, take_list, take_option};
-use uss_event::{Ending, Entry, FlightAsk};
+use uss_event::{Closing, Ending, Entry, FlightAsk, Holding, Opening, Sending, Trial};
 use uss_intent::{MOST_OVNS, Ovn, Ovns, Owed, Sequence};
 
 fn put_opened(job: u64, moment: i64, value: &FlightAsk, out: &mut Vec<u8>) -> Result<(), AllocError>
@@ -76,11 +76,11 @@ fn put_end(job: u64, end: &Ending, out: &mut Vec<u8>) -> Result<(), AllocError>
     put_ending(end, out)
 }
 
-fn put_sent(job: u64, place: u32, out: &mut Vec<u8>) -> Result<(), AllocError>
-    ensures { OnOk result (out.new.items ≡ out.old.items ++ (in_8_bytes job ++ in_4_bytes place)) }
+fn put_sent(job: u64, index: u32, out: &mut Vec<u8>) -> Result<(), AllocError>
+    ensures { OnOk result (out.new.items ≡ out.old.items ++ (in_8_bytes job ++ in_4_bytes index)) }
 {
     job.put(out)?;
-    place.put(out)
+    index.put(out)
 }
 
 /// The byte for the entry's kind.
@@ -89,14 +89,14 @@ fn kind_of(entry: &Entry) -> u8
 {
     match entry {
         Entry::Owner(_) => 1,
-        Entry::Opened { .. } => 2,
+        Entry::Opened(_) => 2,
         Entry::TicketOpen { .. } => 3,
-        Entry::Pending { .. } => 4,
-        Entry::Held { .. } => 5,
-        Entry::Deciding { .. } => 6,
-        Entry::Done { .. } => 7,
+        Entry::Pending(_) => 4,
+        Entry::Held(_) => 5,
+        Entry::Deciding(_) => 6,
+        Entry::Done(_) => 7,
         Entry::TicketGone { .. } => 8,
-        Entry::Sent { .. } => 9,
+        Entry::Sent(_) => 9,
     }
 }
 
@@ -107,26 +107,30 @@ fn put_fields(entry: &Entry, out: &mut Vec<u8>) -> Result<(), AllocError>
 {
     match entry {
         Entry::Owner(owner) => put_owner(owner, out),
-        Entry::Opened { job, moment, ask } => put_opened(*job, *moment, ask, out),
+        Entry::Opened(Opening { job, moment, ask }) => put_opened(*job, *moment, ask, out),
         Entry::TicketOpen { job } => job.put(out),
-        Entry::Pending {
-            job,
-            tag,
-            alternative,
-            previous,
-            key,
-        } => put_pending(*job, *tag, *alternative, previous, key, out),
-        Entry::Held {
-            job,
-            tag,
-            ovn,
-            version,
-            owed,
-        } => put_held(*job, *tag, ovn, *version, owed, out),
-        Entry::Deciding { job, end } => put_end(*job, end, out),
-        Entry::Done { job, end } => put_end(*job, end, out),
+        Entry::Pending(
+            Trial {
+                job,
+                tag,
+                alternative,
+                previous,
+                key,
+            },
+        ) => put_pending(*job, *tag, *alternative, previous, key, out),
+        Entry::Held(
+            Holding {
+                job,
+                tag,
+                ovn,
+                version,
+                owed,
+            },
+        ) => put_held(*job, *tag, ovn, *version, owed, out),
+        Entry::Deciding(Closing { job, end }) => put_end(*job, end, out),
+        Entry::Done(Closing { job, end }) => put_end(*job, end, out),
         Entry::TicketGone { job } => job.put(out),
-        Entry::Sent { job, place } => put_sent(*job, *place, out),
+        Entry::Sent(Sending { job, index }) => put_sent(*job, *index, out),
     }
 }
 
@@ -149,12 +153,12 @@ fn take_owner_entry(alloc: Global, bytes: &[u8]) -> Result<(Entry, &[u8]), Unrea
 
 #[tactic(auto, unfolding(crate::specs::Reading::opened_at))]
 fn take_opened(alloc: Global, bytes: &[u8]) -> Result<(Entry, &[u8]), Unread>
-    ensures { Gives (λ x. (x.0, x.1.now)) result (made_at (λ t. Enters.Opened t.0 t.1.0 t.1.1) opened_at bytes.now) }
+    ensures { Gives (λ x. (x.0, x.1.now)) result (made_at (λ t. Enters.Opened (record { job = t.0; moment = t.1.0; ask = t.1.1 })) opened_at bytes.now) }
 {
     let (job, rest) = u64::take(alloc, bytes)?;
     let (moment, rest) = take_instant(alloc, rest)?;
     let (ask, rest) = take_ask(alloc, rest)?;
-    Ok((Entry::Opened { job, moment, ask }, rest))
+    Ok((Entry::Opened(Opening { job, moment, ask }), rest))
 }
 
 fn take_ticket_open(alloc: Global, bytes: &[u8]) -> Result<(Entry, &[u8]), Unread>
@@ -174,58 +178,58 @@ fn take_key(alloc: Global, bytes: &[u8]) -> Result<(Ovns, &[u8]), Unread>
 
 #[tactic(auto, unfolding(crate::specs::Reading::pending_at))]
 fn take_pending(alloc: Global, bytes: &[u8]) -> Result<(Entry, &[u8]), Unread>
-    ensures { Gives (λ x. (x.0, x.1.now)) result (made_at (λ t. Enters.Pending t.0 t.1.0 t.1.1.0 t.1.1.1.0 t.1.1.1.1) pending_at bytes.now) }
+    ensures { Gives (λ x. (x.0, x.1.now)) result (made_at (λ t. Enters.Pending (record { job = t.0; tag = t.1.0; alternative = t.1.1.0; previous = t.1.1.1.0; key = t.1.1.1.1 })) pending_at bytes.now) }
 {
     let (job, rest) = u64::take(alloc, bytes)?;
     let (tag, rest) = u64::take(alloc, rest)?;
     let (alternative, rest) = u8::take(alloc, rest)?;
     let (previous, rest) = take_option::<Ovn>(alloc, rest)?;
     let (key, rest) = take_key(alloc, rest)?;
-    let entry = Entry::Pending {
+    let entry = Entry::Pending(Trial {
         job,
         tag,
         alternative,
         previous,
         key,
-    };
+    });
     Ok((entry, rest))
 }
 
 #[tactic(auto, unfolding(crate::specs::Reading::held_at))]
 fn take_held(alloc: Global, bytes: &[u8]) -> Result<(Entry, &[u8]), Unread>
-    ensures { Gives (λ x. (x.0, x.1.now)) result (made_at (λ t. Enters.Held t.0 t.1.0 t.1.1.0 t.1.1.1.0 t.1.1.1.1) held_at bytes.now) }
+    ensures { Gives (λ x. (x.0, x.1.now)) result (made_at (λ t. Enters.Held (record { job = t.0; tag = t.1.0; ovn = t.1.1.0; version = t.1.1.1.0; owed = t.1.1.1.1 })) held_at bytes.now) }
 {
     let (job, rest) = u64::take(alloc, bytes)?;
     let (tag, rest) = u64::take(alloc, rest)?;
     let (ovn, rest) = Ovn::take(alloc, rest)?;
     let (version, rest) = u32::take(alloc, rest)?;
     let (owed, rest) = take_owed(alloc, rest)?;
-    let entry = Entry::Held {
+    let entry = Entry::Held(Holding {
         job,
         tag,
         ovn,
         version,
         owed,
-    };
+    });
     Ok((entry, rest))
 }
 
 #[tactic(auto, unfolding(crate::specs::Reading::deciding_at))]
 fn take_deciding(alloc: Global, bytes: &[u8]) -> Result<(Entry, &[u8]), Unread>
-    ensures { Gives (λ x. (x.0, x.1.now)) result (made_at (λ t. Enters.Deciding t.0 t.1) deciding_at bytes.now) }
+    ensures { Gives (λ x. (x.0, x.1.now)) result (made_at (λ t. Enters.Deciding (record { job = t.0; end = t.1 })) deciding_at bytes.now) }
 {
     let (job, rest) = u64::take(alloc, bytes)?;
     let (end, rest) = take_decision(alloc, rest)?;
-    Ok((Entry::Deciding { job, end }, rest))
+    Ok((Entry::Deciding(Closing { job, end }), rest))
 }
 
 #[tactic(auto, unfolding(crate::specs::Reading::done_at))]
 fn take_done(alloc: Global, bytes: &[u8]) -> Result<(Entry, &[u8]), Unread>
-    ensures { Gives (λ x. (x.0, x.1.now)) result (made_at (λ t. Enters.Done t.0 t.1) done_at bytes.now) }
+    ensures { Gives (λ x. (x.0, x.1.now)) result (made_at (λ t. Enters.Done (record { job = t.0; end = t.1 })) done_at bytes.now) }
 {
     let (job, rest) = u64::take(alloc, bytes)?;
     let (end, rest) = take_ending(alloc, rest)?;
-    Ok((Entry::Done { job, end }, rest))
+    Ok((Entry::Done(Closing { job, end }), rest))
 }
 
 fn take_ticket_gone(alloc: Global, bytes: &[u8]) -> Result<(Entry, &[u8]), Unread>
@@ -237,14 +241,14 @@ fn take_ticket_gone(alloc: Global, bytes: &[u8]) -> Result<(Entry, &[u8]), Unrea
 
 #[tactic(auto, unfolding(crate::specs::Reading::sent_at))]
 fn take_sent(alloc: Global, bytes: &[u8]) -> Result<(Entry, &[u8]), Unread>
-    ensures { Gives (λ x. (x.0, x.1.now)) result (made_at (λ t. Enters.Sent t.0 t.1) sent_at bytes.now) }
+    ensures { Gives (λ x. (x.0, x.1.now)) result (made_at (λ t. Enters.Sent (record { job = t.0; index = t.1 })) sent_at bytes.now) }
 {
     let (job, rest) = u64::take(alloc, bytes)?;
-    let (place, rest) = u32::take(alloc, rest)?;
-    Ok((Entry::Sent { job, place }, rest))
+    let (index, rest) = u32::take(alloc, rest)?;
+    Ok((Entry::Sent(Sending { job, index }), rest))
 }
 
-/// The entry of a kind with the fields at the front, and the bytes behind them.
+/// The entry of a kind with the fields at the start, and the bytes after them.
 #[tactic(auto, unfolding(crate::specs::Reading::fields_at))]
 fn take_fields(alloc: Global, kind: u8, bytes: &[u8]) -> Result<(Entry, &[u8]), Unread>
     ensures { Gives (λ x. (x.0, x.1.now)) result (fields_at kind bytes.now) }
@@ -263,7 +267,7 @@ fn take_fields(alloc: Global, kind: u8, bytes: &[u8]) -> Result<(Entry, &[u8]), 
     }
 }
 
-/// The entry at the front, and the bytes behind it.
+/// The entry at the start, and the bytes after it.
 #[tactic(auto, unfolding(crate::specs::Reading::entry_at))]
 pub(crate) fn take_entry(alloc: Global, bytes: &[u8]) -> Result<(Entry, &[u8]), Unread>
     ensures { Gives (λ x. (x.0, x.1.now)) result (entry_at bytes.now) }

@@ -5,7 +5,9 @@ ghost use Rattle.uss_event.specs.declared.entries.Entry.TheVariants as Enters;
 ghost use Rattle.uss_law_book.specs.Coding.{text_length, texts_length, option_length, volume_length, volumes_length, proposal_length, wish_length, subscriber_length, owed_length, ending_length, coding_length, IsProposal, IsWish, IsAsk, AreOwed, IsEnding, IsOwner, HasCoding};
 ghost use Rattle.uss_intent.specs.Limits.{most_ovns, most_tickets};
 
-use uss_event::{Ending, Entry, FlightAsk, Owner, Proposal, Wish};
+use uss_event::{
+    Closing, Ending, Entry, FlightAsk, Holding, Opening, Owner, Proposal, Trial, Wish,
+};
 use uss_intent::{Name, Ovn, Subscriber};
 use uss_vol4::Volume4;
 
@@ -63,7 +65,7 @@ fn wish_length(wish: &Wish) -> u64
 /// How many bytes the coding of a job's opening for this request has. Takes no memory.
 pub fn opening_length(ask: &FlightAsk) -> u64
     requires { IsAsk ask.now }
-    ensures value { (job : ℕ) (moment : ℤ) → result ≡ coding_length (Enters.Opened job moment ask.now) }
+    ensures value { (job : ℕ) (moment : ℤ) → result ≡ coding_length (Enters.Opened (record { job = job; moment = moment; ask = ask.now })) }
     ensures bound { result ≤ 2085482349 }
 {
     33 + wish_length(&ask.wish)
@@ -155,13 +157,16 @@ pub fn length_of(entry: &Entry) -> u64
 {
     match entry {
         Entry::Owner(owner) => owner_length(owner),
-        Entry::Opened { ask, .. } => opening_length(ask),
+        Entry::Opened(opening) => opening_length(&opening.ask),
         Entry::TicketOpen { .. } | Entry::TicketGone { .. } => 9,
-        Entry::Pending { previous, key, .. } => {
+        Entry::Pending(Trial { previous, key, .. }) => {
             18 + option_length(previous) + key_length(key.as_slice())
         }
-        Entry::Held { ovn, owed, .. } => 21 + ovn_length(ovn) + owed_length(owed.as_slice()),
-        Entry::Deciding { end, .. } | Entry::Done { end, .. } => 9 + ending_length(end),
-        Entry::Sent { .. } => 13,
+        Entry::Held(Holding { ovn, owed, .. }) => 21
+            + ovn_length(ovn)
+            + owed_length(owed.as_slice()),
+        Entry::Deciding(Closing { end, .. }) | Entry::Done(Closing { end, .. }) => 9
+            + ending_length(end),
+        Entry::Sent(_) => 13,
     }
 }

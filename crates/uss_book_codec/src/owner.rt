@@ -22,7 +22,7 @@ pub(crate) fn put_owner(value: &Owner, out: &mut Vec<u8>) -> Result<(), AllocErr
     Ok(())
 }
 
-/// The configured base URL at the front, of at most 256 bytes, and the bytes behind it.
+/// The configured base URL at the start, of at most 256 bytes, and the bytes after it.
 #[tactic(auto, unfolding(crate::specs::Reading::short_base_at))]
 fn take_short_base(alloc: Global, bytes: &[u8]) -> Result<(Base, &[u8]), Unread>
     ensures { Gives (λ x. (x.0, x.1.now)) result (short_base_at bytes.now) }
@@ -34,7 +34,7 @@ fn take_short_base(alloc: Global, bytes: &[u8]) -> Result<(Base, &[u8]), Unread>
     Ok((base, rest))
 }
 
-/// The table of rules at the front, and the bytes behind it.
+/// The table of rules at the start, and the bytes after it.
 #[tactic(auto, unfolding(crate::specs::Reading::table_at))]
 fn take_table(alloc: Global, bytes: &[u8]) -> Result<(RuleTable, &[u8]), Unread>
     ensures { Gives (λ x. (x.0, x.1.now)) result (table_at bytes.now) }
@@ -46,7 +46,7 @@ fn take_table(alloc: Global, bytes: &[u8]) -> Result<(RuleTable, &[u8]), Unread>
     }
 }
 
-/// Whose book it is, and the bytes behind it.
+/// Whose book it is, and the bytes after it.
 #[tactic(auto, unfolding(crate::specs::Reading::owner_at))]
 pub(crate) fn take_owner(alloc: Global, bytes: &[u8]) -> Result<(Owner, &[u8]), Unread>
     ensures { Gives (λ x. (x.0, x.1.now)) result (owner_at bytes.now) }

@@ -31,7 +31,7 @@ fn state_of(number: u8) -> Option<State>
     }
 }
 
-/// The state with the number at the front, and the bytes behind it.
+/// The state with the number at the start, and the bytes after it.
 #[tactic(auto, unfolding(crate::specs::Reading::state_at))]
 pub(crate) fn take_state(alloc: Global, bytes: &[u8]) -> Result<(State, &[u8]), Unread>
     ensures { Gives (λ x. (x.0, x.1.now)) result (state_at bytes.now) }
@@ -66,7 +66,7 @@ pub(crate) fn put_rule(why: Verdict, out: &mut Vec<u8>) -> Result<(), AllocError
     number.put(out)
 }
 
-/// The rule with the number at the front, and the bytes behind it.
+/// The rule with the number at the start, and the bytes after it.
 #[tactic(auto, unfolding(crate::specs::Reading::rule_at))]
 pub(crate) fn take_rule(alloc: Global, bytes: &[u8]) -> Result<(Verdict, &[u8]), Unread>
     ensures { Gives (λ x. (x.0, x.1.now)) result (rule_at bytes.now) }
@@ -84,7 +84,7 @@ fn is_instant(moment: i64) -> bool
     EARLIEST <= moment && moment <= LATEST
 }
 
-/// The instant at the front, from 2000-01-01 to 2200-01-01 in ns since 1970, and the bytes behind it.
+/// The instant at the start, from 2000-01-01 to 2200-01-01 in ns since 1970, and the bytes after it.
 #[tactic(auto, unfolding(crate::specs::Reading::instant_at))]
 pub(crate) fn take_instant(alloc: Global, bytes: &[u8]) -> Result<(i64, &[u8]), Unread>
     ensures { Gives (λ x. (x.0, x.1.now)) result (instant_at bytes.now) }

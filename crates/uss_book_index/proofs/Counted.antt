@@ -9,8 +9,9 @@ use Rattle.std.proofs.lemmas.List.Elements.{filter-append}
 use Rattle.uss_event.specs.declared.entries.Entry.{Entry}
 use Rattle.uss_event.specs.declared.entries.Entry.TheVariants as Enters
 use Rattle.uss_law_dss.proofs.Tests.{same_number}
-use Rattle.uss_law_book.specs.Lists.{Trial, trials}
-use Rattle.uss_law_book.specs.Readings.{trials_of}
+use Rattle.uss_event.specs.declared.entries.Trial.{Trial}
+use Rattle.uss_law_book.specs.Lists.{trials}
+use Rattle.uss_law_book.specs.Contents.{trials_of}
 use Rattle.uss_law_book.specs.Coding.{record_length}
 use Rattle.uss_law_book.proofs.Entries.{trials_append}
 use Rattle.uss_law_book.proofs.Bytes.{bytes_grow}
@@ -29,18 +30,18 @@ attempts_grow job es e =
 -- an entry counts for its job alone
 not_later : (job : ℕ) (e : Entry) → (job_of e == job) ≡ false → sum_by record_length (filter (is_later_of job) (e ∷ [])) ≡ 0
 not_later job (Enters.Owner owner) h = refl
-not_later job (Enters.Opened j moment ask) h = refl
+not_later job (Enters.Opened o) h = refl
 not_later job (Enters.TicketOpen j) h = rw h refl
-not_later job (Enters.Pending j tag alternative previous key) h = rw h refl
-not_later job (Enters.Held j tag ovn version owed) h = rw h refl
-not_later job (Enters.Deciding j end) h = rw h refl
-not_later job (Enters.Done j end) h = rw h refl
+not_later job (Enters.Pending t) h = rw h refl
+not_later job (Enters.Held holding) h = rw h refl
+not_later job (Enters.Deciding d) h = rw h refl
+not_later job (Enters.Done d) h = rw h refl
 not_later job (Enters.TicketGone j) h = rw h refl
-not_later job (Enters.Sent j place) h = rw h refl
+not_later job (Enters.Sent n) h = rw h refl
 
 not_tried : (job : ℕ) (e : Entry) → (job_of e == job) ≡ false → length (trials_of job (e ∷ [])) ≡ 0
 unfolding trials_of
-not_tried job (Enters.Pending j tag alternative previous key) h = rw h refl
+not_tried job (Enters.Pending t) h = rw h refl
 not_tried job _ h = refl
 
 pub counted : (old new : BTreeMap ℕ Tally) (es : List Entry) (e : Entry) (t u : Tally) → AreTallies old es → tree.get nat_cmp old (job_of e) ≡ Some t → u.attempts ≡ t.attempts + length (trials_of (job_of e) (e ∷ []))

@@ -8,8 +8,9 @@ use Rattle.std.proofs.lemmas.List.Elements.{filter-append}
 use Rattle.uss_event.specs.declared.entries.Entry.{Entry}
 use Rattle.uss_event.specs.declared.entries.Entry.TheVariants.{Pending}
 use Rattle.uss_law_dss.proofs.Tests.{same_number, other_number, some_same}
-use Rattle.uss_law_book.specs.Lists.{Trial, trials}
-use Rattle.uss_law_book.specs.Readings.{trials_of}
+use Rattle.uss_event.specs.declared.entries.Trial.{Trial}
+use Rattle.uss_law_book.specs.Lists.{trials}
+use Rattle.uss_law_book.specs.Contents.{trials_of}
 use Rattle.uss_law_book.proofs.Entries.{trials_append}
 use Rattle.uss_book_rules.specs.Speaks.{trial_in}
 use Rattle.uss_book_index.specs.declared.ordinal.Ordinal.{Ordinal}
@@ -50,12 +51,12 @@ trials_longer job es e =
 -- the entry makes no attempt
 none_tried : (job : ℕ) (es : List Entry) (e : Entry) → ordinal_for es e ≡ None → trials_of job (e ∷ []) ≡ []
 unfolding trials_of
-none_tried job es (Pending j tag alternative previous key) h = cc
+none_tried job es (Pending t) h = cc
 none_tried job es _ h = refl
 
 -- the entry that makes an attempt
 abbrev by_trial : Trial → Entry
-by_trial t = Pending t.job t.tag t.alternative t.previous t.key
+by_trial t = Pending t
 
 tried_else : (job : ℕ) (t : Trial) → (t.job == job) ≡ false → trials_of job (by_trial t ∷ []) ≡ []
 unfolding trials_of
@@ -133,9 +134,9 @@ grown old new es t o are job number put = λ q. go q (o.job == q.job) (o.number 
 
 pub ordinals_grow : (old new : BTreeMap Ordinal (Option ℕ)) (es : List Entry) (e : Entry) (o : Ordinal) (place : ℕ) → AreOrdinals old es → ordinal_for es e ≡ Some o → length es ≡ place
     → ((q : Ordinal) → tree.get ordinal_cmp new q ≡ cond (is_at (ordinal_cmp o) q) (Some (Some place)) (tree.get ordinal_cmp old q)) → AreOrdinals new (es ++ e ∷ [])
-ordinals_grow old new es (Pending job tag alternative previous key) o place are makes at put =
-    let same : record { job = job; number = length (trials_of job es) } ≡ o = some_same (record { job = job; number = length (trials_of job es) }) o makes in
-    grown old new es (record { job = job; tag = tag; alternative = alternative; previous = previous; key = key }) o are (ap (λ (p : Ordinal). p.job) (sym same)) (ap (λ (p : Ordinal). p.number) (sym same))
+ordinals_grow old new es (Pending t) o place are makes at put =
+    let same : record { job = t.job; number = length (trials_of t.job es) } ≡ o = some_same (record { job = t.job; number = length (trials_of t.job es) }) o makes in
+    grown old new es t o are (ap (λ (p : Ordinal). p.job) (sym same)) (ap (λ (p : Ordinal). p.number) (sym same))
     (λ q. put q ∙ ap (λ n. cond (is_at (ordinal_cmp o) q) (Some (Some n)) (tree.get ordinal_cmp old q)) (sym at))
 ordinals_grow old new es e o place are makes at put = cc
 

@@ -4,7 +4,7 @@ pub mod Counted
 pub mod Flown
 pub mod InTurn
 pub mod Numbered
-pub mod Told
+pub mod Sent
 pub mod Opens
 pub mod Fits
 pub mod Unanswered

@@ -20,23 +20,23 @@ use Rattle.uss_book_index.proofs.Places.{unlike_stays, first_stays, first_comes}
 pub same_mark : (e : Entry) (m : Mark) → has_mark m e ≡ true → mark_of e ≡ m
 same_mark (Enters.Owner owner) Marks.Owner h = refl
 same_mark (Enters.Owner owner) _ h = cc
-same_mark (Enters.Opened job moment ask) (Marks.Opened k) h = ap Marks.Opened (same_number job k h)
-same_mark (Enters.Opened job moment ask) _ h = cc
+same_mark (Enters.Opened o) (Marks.Opened k) h = ap Marks.Opened (same_number o.job k h)
+same_mark (Enters.Opened o) _ h = cc
 same_mark (Enters.TicketOpen job) (Marks.TicketOpen k) h = ap Marks.TicketOpen (same_number job k h)
 same_mark (Enters.TicketOpen job) _ h = cc
-same_mark (Enters.Pending job tag alternative previous key) (Marks.Pending k) h = ap Marks.Pending (same_number tag k h)
-same_mark (Enters.Pending job tag alternative previous key) _ h = cc
-same_mark (Enters.Held job tag ovn version owed) (Marks.Held k) h = ap Marks.Held (same_number job k h)
-same_mark (Enters.Held job tag ovn version owed) _ h = cc
-same_mark (Enters.Deciding job end) (Marks.Deciding k) h = ap Marks.Deciding (same_number job k h)
-same_mark (Enters.Deciding job end) _ h = cc
-same_mark (Enters.Done job end) (Marks.Done k) h = ap Marks.Done (same_number job k h)
-same_mark (Enters.Done job end) _ h = cc
+same_mark (Enters.Pending t) (Marks.Pending k) h = ap Marks.Pending (same_number t.tag k h)
+same_mark (Enters.Pending t) _ h = cc
+same_mark (Enters.Held holding) (Marks.Held k) h = ap Marks.Held (same_number holding.job k h)
+same_mark (Enters.Held holding) _ h = cc
+same_mark (Enters.Deciding d) (Marks.Deciding k) h = ap Marks.Deciding (same_number d.job k h)
+same_mark (Enters.Deciding d) _ h = cc
+same_mark (Enters.Done d) (Marks.Done k) h = ap Marks.Done (same_number d.job k h)
+same_mark (Enters.Done d) _ h = cc
 same_mark (Enters.TicketGone job) (Marks.TicketGone k) h = ap Marks.TicketGone (same_number job k h)
 same_mark (Enters.TicketGone job) _ h = cc
-same_mark (Enters.Sent job place) (Marks.Sent k p) h =
-    let b = both (job == k) (place == p) h in rw (same_number job k b.0, same_number place p b.1) refl
-same_mark (Enters.Sent job place) _ h = cc
+same_mark (Enters.Sent n) (Marks.Sent k p) h =
+    let b = both (n.job == k) (n.index == p) h in rw (same_number n.job k b.0, same_number n.index p b.1) refl
+same_mark (Enters.Sent n) _ h = cc
 
 pub pair_ties : (a b c d : ℕ) → is_eq (ordering_then (nat_cmp a b) (nat_cmp c d)) ≡ ((a == b) && (c == d))
 pair_ties a b c d = grind (arith, nat_tests)
@@ -45,22 +45,22 @@ pair_ties a b c d = grind (arith, nat_tests)
 pub at_mark : (e : Entry) (m : Mark) → is_at (mark_cmp (mark_of e)) m ≡ has_mark m e
 at_mark (Enters.Owner owner) Marks.Owner = refl
 at_mark (Enters.Owner owner) _ = refl
-at_mark (Enters.Opened job moment ask) (Marks.Opened k) = sym (unsigned_ties job k)
-at_mark (Enters.Opened job moment ask) _ = refl
+at_mark (Enters.Opened o) (Marks.Opened k) = sym (unsigned_ties o.job k)
+at_mark (Enters.Opened o) _ = refl
 at_mark (Enters.TicketOpen job) (Marks.TicketOpen k) = sym (unsigned_ties job k)
 at_mark (Enters.TicketOpen job) _ = refl
-at_mark (Enters.Pending job tag alternative previous key) (Marks.Pending k) = sym (unsigned_ties tag k)
-at_mark (Enters.Pending job tag alternative previous key) _ = refl
-at_mark (Enters.Held job tag ovn version owed) (Marks.Held k) = sym (unsigned_ties job k)
-at_mark (Enters.Held job tag ovn version owed) _ = refl
-at_mark (Enters.Deciding job end) (Marks.Deciding k) = sym (unsigned_ties job k)
-at_mark (Enters.Deciding job end) _ = refl
-at_mark (Enters.Done job end) (Marks.Done k) = sym (unsigned_ties job k)
-at_mark (Enters.Done job end) _ = refl
+at_mark (Enters.Pending t) (Marks.Pending k) = sym (unsigned_ties t.tag k)
+at_mark (Enters.Pending t) _ = refl
+at_mark (Enters.Held h) (Marks.Held k) = sym (unsigned_ties h.job k)
+at_mark (Enters.Held h) _ = refl
+at_mark (Enters.Deciding d) (Marks.Deciding k) = sym (unsigned_ties d.job k)
+at_mark (Enters.Deciding d) _ = refl
+at_mark (Enters.Done d) (Marks.Done k) = sym (unsigned_ties d.job k)
+at_mark (Enters.Done d) _ = refl
 at_mark (Enters.TicketGone job) (Marks.TicketGone k) = sym (unsigned_ties job k)
 at_mark (Enters.TicketGone job) _ = refl
-at_mark (Enters.Sent job place) (Marks.Sent k p) = pair_ties job k place p
-at_mark (Enters.Sent job place) _ = refl
+at_mark (Enters.Sent n) (Marks.Sent k p) = pair_ties n.job k n.index p
+at_mark (Enters.Sent n) _ = refl
 
 -- there was room alone
 pub entered_first : (old new : BTreeMap Mark (Option ℕ)) (mark : Mark) (place : ℕ) (es : List Entry) (e : Entry) → AreFirsts old es → mark_of e ≡ mark → length es ≡ place → tree.get mark_cmp old mark ≡ Some None

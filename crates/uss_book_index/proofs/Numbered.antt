@@ -6,8 +6,9 @@ use Rattle.std.specs.BTreeMap as tree
 use Rattle.uss_event.specs.declared.entries.Entry.{Entry}
 use Rattle.uss_event.specs.declared.entries.Entry.TheVariants.{Opened, Pending}
 use Rattle.uss_law_dss.proofs.Lists.{length-filter_le}
-use Rattle.uss_law_book.specs.Lists.{Trial, openings, trials}
-use Rattle.uss_law_book.specs.Readings.{trials_of}
+use Rattle.uss_event.specs.declared.entries.Trial.{Trial}
+use Rattle.uss_law_book.specs.Lists.{openings, trials}
+use Rattle.uss_law_book.specs.Contents.{trials_of}
 use Rattle.uss_law_book.specs.Legal.{MayFollow}
 use Rattle.uss_law_book.proofs.Entries.{openings_append, trials_append}
 use Rattle.uss_book_rules.specs.Speaks.{job_of}
@@ -29,22 +30,22 @@ trials_more : (es : List Entry) (e : Entry) → length (trials (es ++ e ∷ []))
 trials_more es e = ap length (trials_append es (e ∷ [])) ∙ length-append (trials es) (trials (e ∷ []))
 
 pub jobs_numbered : (es : List Entry) (e : Entry) (n : ℕ) → MayFollow es e → n ≡ length (openings es) → job_after n e ≡ length (openings (es ++ e ∷ []))
-jobs_numbered es (Opened job moment ask) n m is =
-    let g = openings_more es (Opened job moment ask) in
+jobs_numbered es (Opened o) n m is =
+    let g = openings_more es (Opened o) in
     let d = m.due.next in
     d ∙ sym g
 jobs_numbered es e n m is = let g = openings_more es e in is ∙ omega (arith, g)
 
 pub tags_numbered : (es : List Entry) (e : Entry) (n : ℕ) → MayFollow es e → n ≡ length (trials es) → tag_after n e ≡ length (trials (es ++ e ∷ []))
-tags_numbered es (Pending job tag alternative previous key) n m is =
-    let g = trials_more es (Pending job tag alternative previous key) in
+tags_numbered es (Pending t) n m is =
+    let g = trials_more es (Pending t) in
     let d = m.due.next in
     d ∙ sym g
 tags_numbered es e n m is = let g = trials_more es e in is ∙ omega (arith, g)
 
 fewer_trials : (es : List Entry) → length (trials es) ≤ length es
 fewer_trials [] = omega arith
-fewer_trials (Pending job tag alternative previous key ∷ es) = let r = fewer_trials es in omega (arith, r)
+fewer_trials (Pending t ∷ es) = let r = fewer_trials es in omega (arith, r)
 fewer_trials (_ ∷ es) = let r = fewer_trials es in omega (arith, r)
 
 fewer_of_job : (job : ℕ) (es : List Entry) → length (trials_of job es) ≤ length (trials es)
@@ -54,11 +55,11 @@ fewer_of_job job es = length-filter_le (λ (t : Trial). t.job == job) (trials es
 -- the attempts of a job fit
 attempts_fit : (es : List Entry) (e : Entry) → MayFollow es e → length es < 2 ^ 64 → length (trials_of (job_of e) es) + length (trials_of (job_of e) (e ∷ [])) < 2 ^ 64
 unfolding trials_of
-attempts_fit es (Pending job tag alternative previous key) m h =
-    let a = length-filter_le (λ (t : Trial). t.job == job) (trials es) in
-    let b = length-filter_le (λ (t : Trial). t.job == job) (trials (Pending job tag alternative previous key ∷ [])) in
-    let n : tag ≡ length (trials es) + 1 = m.due.next in
-    let f : tag < 2 ^ 64 = m.coding.tag_fits in
+attempts_fit es (Pending trial) m h =
+    let a = length-filter_le (λ (t : Trial). t.job == trial.job) (trials es) in
+    let b = length-filter_le (λ (t : Trial). t.job == trial.job) (trials (Pending trial ∷ [])) in
+    let n : trial.tag ≡ length (trials es) + 1 = m.due.next in
+    let f : trial.tag < 2 ^ 64 = m.coding.tag_fits in
     omega (arith, a, b, n, f)
 attempts_fit es e m h =
     let a = length-filter_le (λ (t : Trial). t.job == job_of e) (trials es) in

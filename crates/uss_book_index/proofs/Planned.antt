@@ -13,8 +13,10 @@ use Rattle.uss_event.specs.declared.entries.Entry.{Entry}
 use Rattle.uss_event.specs.declared.entries.Entry.TheVariants.{Opened}
 use Rattle.uss_event.specs.declared.entries.Entry.TheVariants as Enters
 use Rattle.uss_law_dss.specs.Lists.{Has}
-use Rattle.uss_law_book.specs.Lists.{Opening, Trial, owner_of, openings}
-use Rattle.uss_law_book.specs.Readings.{opening_of, trial_of}
+use Rattle.uss_event.specs.declared.entries.Opening.{Opening}
+use Rattle.uss_event.specs.declared.entries.Trial.{Trial}
+use Rattle.uss_law_book.specs.Lists.{owner_of, openings}
+use Rattle.uss_law_book.specs.Contents.{opening_of, trial_of}
 use Rattle.uss_law_book.specs.Coding.{IsWish}
 use Rattle.uss_law_book.specs.Legal.{IsLegal, MayFollow, MayWish}
 use Rattle.uss_law_book.specs.Attempts.{Attempted, attempted, by_wish, by_opening, by_trial, attempt_of, recorded_as}
@@ -40,9 +42,9 @@ abbrev AllPlanned : List Entry → Type 0
 AllPlanned es = (o : Opening) → Has (openings es) o → ArePlanned o.ask.wish
 
 new_planned : (es : List Entry) (e : Entry) → MayFollow es e → (o : Opening) → Has (openings (e ∷ [])) o → ArePlanned o.ask.wish
-new_planned es (Opened job moment ask) m o (inl q) =
-    subst (λ (x : Opening). ArePlanned x.ask.wish) q (wish_planned _ ask.wish m.due.wish m.coding.2.wish)
-new_planned es (Opened job moment ask) m o (inr n) = absurd n
+new_planned es (Opened opening) m o (inl q) =
+    subst (λ (x : Opening). ArePlanned x.ask.wish) q (wish_planned _ opening.ask.wish m.due.wish m.coding.2.wish)
+new_planned es (Opened opening) m o (inr n) = absurd n
 new_planned es _ m o h = absurd h
 
 all_planned : (es : List Entry) → IsLegal es → AllPlanned es

@@ -12,8 +12,10 @@ use Rattle.uss_event.specs.declared.entries.Entry.TheVariants.{Held}
 use Rattle.uss_law_dss.specs.Lists.{Has}
 use Rattle.uss_law_dss.proofs.Lists.{has_filter}
 use Rattle.uss_law_dss.proofs.Tests.{same_number, equal_number}
-use Rattle.uss_law_book.specs.Lists.{Opening, Holding, holdings}
-use Rattle.uss_law_book.specs.Readings.{opening_of, is_job_of, holdings_of, last_holding}
+use Rattle.uss_event.specs.declared.entries.Opening.{Opening}
+use Rattle.uss_event.specs.declared.entries.Holding.{Holding}
+use Rattle.uss_law_book.specs.Lists.{holdings}
+use Rattle.uss_law_book.specs.Contents.{opening_of, is_job_of, holdings_of, last_holding}
 use Rattle.uss_law_book.specs.Attempts.{Attempted, attempt_of, recorded_as, held_by}
 use Rattle.uss_law_book.specs.Legal.{IsDue, MayHold}
 use Rattle.uss_law_book.specs.Orderly.{IsOrderly}
@@ -64,20 +66,20 @@ mapped_none : {X Y P : Type 0} (f : X → Y) (w : Option X) (x : X) → w ≡ So
 mapped_none f w x at none = absurd (let e : option_map f (Some x) ≡ None = subst (λ y. option_map f y ≡ None) at none in cc)
 
 pub records_stay : (pairs : BTreeMap ℕ (Option OperationalIntent)) (es : List Entry) (e : Entry) → AreRecords pairs es → IsOrderly es → IsDue es e → pair_for es e ≡ None → AreRecords pairs (es ++ e ∷ [])
-records_stay pairs es (Held job tag ovn version owed) are s d none =
-    let a = held_attempt es job tag s d in mapped_none (λ (y : Attempted). recorded_as y ovn version) (attempt_of tag es) a.0 a.1 none
+records_stay pairs es (Held h) are s d none =
+    let a = held_attempt es h.job h.tag s d in mapped_none (λ (y : Attempted). recorded_as y h.ovn h.version) (attempt_of h.tag es) a.0 a.1 none
 records_stay pairs es e are s d none = λ g. are g ∙ else_stays es e g s (λ x h. absurd h)
 
 -- what is recorded is of a flight
 pub recorded_of_flight : {P : Type 0} (es : List Entry) (e : Entry) (p : OperationalIntent) → IsDue es e → flight_in es e ≡ None → pair_for es e ≡ Some p → P
-recorded_of_flight es (Held job tag ovn version owed) p d none some =
-    let o = open_parts es job d.unfinished in mapped_none (λ (p : Opening). p.ask.flight) (opening_of job es) o.0 o.1 none
+recorded_of_flight es (Held h) p d none some =
+    let o = open_parts es h.job d.unfinished in mapped_none (λ (p : Opening). p.ask.flight) (opening_of h.job es) o.0 o.1 none
 recorded_of_flight es e p d none some = cc
 
 new_pair : (es : List Entry) (x : Holding) (o : Opening) → IsOrderly es → MayHold es x.job x.tag → opening_of x.job es ≡ Some o
-    → held_by (es ++ Held x.job x.tag x.ovn x.version x.owed ∷ []) (last_holding o.ask.flight (es ++ Held x.job x.tag x.ovn x.version x.owed ∷ [])) ≡ pair_for es (Held x.job x.tag x.ovn x.version x.owed)
+    → held_by (es ++ Held x ∷ []) (last_holding o.ask.flight (es ++ Held x ∷ [])) ≡ pair_for es (Held x)
 new_pair es x o s d at =
-    let e : Entry = Held x.job x.tag x.ovn x.version x.owed in
+    let e : Entry = Held x in
     let own : is_job_of o.ask.flight x.job (es ++ e ∷ []) ≡ true = job_of_old es e o.ask.flight x.job o at ∙ equal_number o.ask.flight o.ask.flight refl in
     let a = held_attempt es x.job x.tag s d in
     ap (held_by (es ++ e ∷ [])) (last_holding_new o.ask.flight es x s own)
@@ -97,14 +99,14 @@ pub record Rows (es : List Entry) (e : Entry) (flight : ℕ) : Type 0 where
   pub others : (g : ℕ) → (flight == g) ≡ false → held_by es (last_holding g es) ≡ held_by (es ++ e ∷ []) (last_holding g (es ++ e ∷ []))
 
 rows_after : (es : List Entry) (e : Entry) (flight : ℕ) (p : OperationalIntent) → IsOrderly es → IsDue es e → flight_in es e ≡ Some flight → pair_for es e ≡ Some p → Rows es e flight
-rows_after es (Held job tag ovn version owed) flight p s d at some =
-    let e : Entry = Held job tag ovn version owed in
-    let x : Holding = record { job = job; tag = tag; ovn = ovn; version = version; owed = owed } in
-    let o = mapped_flight (opening_of job es) flight at in
+rows_after es (Held holding) flight p s d at some =
+    let e : Entry = Held holding in
+    let x : Holding = holding in
+    let o = mapped_flight (opening_of holding.job es) flight at in
     subst (λ f. Rows es e f) o.2
     (record {
       own = new_pair es x o.0 s d o.1;
-      others = λ g other. else_stays es e g s (λ y h. the_holding (λ z. is_job_of g z.job (es ++ e ∷ []) ≡ false) x (job_of_old es e g job o.0 o.1 ∙ other) y h);
+      others = λ g other. else_stays es e g s (λ y h. the_holding (λ z. is_job_of g z.job (es ++ e ∷ []) ≡ false) x (job_of_old es e g holding.job o.0 o.1 ∙ other) y h);
     })
 rows_after es e flight p s d at some = cc
 

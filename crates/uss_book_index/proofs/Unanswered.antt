@@ -7,8 +7,10 @@ use Rattle.uss_event.specs.declared.entries.Ending.TheVariants.{Ended}
 use Rattle.uss_event.specs.declared.entries.Entry.{Entry}
 use Rattle.uss_event.specs.declared.entries.Entry.TheVariants.{Held, Done}
 use Rattle.uss_law_dss.proofs.Tests.{not_le}
-use Rattle.uss_law_book.specs.Lists.{Holding, Closing, holdings, endings}
-use Rattle.uss_law_book.specs.Readings.{holding_of, ending_of, owed_at_end, owed_by, owed_of, is_told, untold}
+use Rattle.uss_event.specs.declared.entries.Holding.{Holding}
+use Rattle.uss_event.specs.declared.entries.Closing.{Closing}
+use Rattle.uss_law_book.specs.Lists.{holdings, endings}
+use Rattle.uss_law_book.specs.Contents.{holding_of, ending_of, owed_at_end, owed_by, owed_of, is_sent, unsent}
 use Rattle.uss_law_book.specs.Coding.{IsEnding}
 use Rattle.uss_law_book.specs.Legal.{IsLegal, MayAllFollow}
 use Rattle.uss_book_index.proofs.Fits.{at_most}
@@ -50,20 +52,20 @@ none_from p from s zero fails = refl
 none_from p from s (suc n) fails =
     step_none from s (p s) (filter p (range_with_len (s + 1) n)) (λ f. fails s f (omega arith)) (none_from p from (s + 1) n (λ j f less. fails j f (omega arith)))
 
-pub untold_at : (job from k : ℕ) (es : List Entry) → from ≤ k → k < length (owed_of job es) → is_told job k es ≡ false → ((j : ℕ) → from ≤ j → j < k → is_told job j es ≡ true) → find (nat_le from) (untold job es) ≡ Some k
-unfolding untold
-untold_at job from k es f less unanswered told =
-    first_from (λ place. not (is_told job place es)) from k 0 (length (owed_of job es)) (omega arith) (omega arith) f (ap not unanswered) (λ j g h. ap not (told j g h))
+pub unsent_at : (job from k : ℕ) (es : List Entry) → from ≤ k → k < length (owed_of job es) → is_sent job k es ≡ false → ((j : ℕ) → from ≤ j → j < k → is_sent job j es ≡ true) → find (nat_le from) (unsent job es) ≡ Some k
+unfolding unsent
+unsent_at job from k es f less unanswered told =
+    first_from (λ place. not (is_sent job place es)) from k 0 (length (owed_of job es)) (omega arith) (omega arith) f (ap not unanswered) (λ j g h. ap not (told j g h))
 
-pub untold_none : (job from : ℕ) (es : List Entry) → ((j : ℕ) → from ≤ j → j < length (owed_of job es) → is_told job j es ≡ true) → find (nat_le from) (untold job es) ≡ None
-unfolding untold
-untold_none job from es told = none_from (λ place. not (is_told job place es)) from 0 (length (owed_of job es)) (λ j g h. ap not (told j g (omega arith)))
+pub unsent_none : (job from : ℕ) (es : List Entry) → ((j : ℕ) → from ≤ j → j < length (owed_of job es) → is_sent job j es ≡ true) → find (nat_le from) (unsent job es) ≡ None
+unfolding unsent
+unsent_none job from es told = none_from (λ place. not (is_sent job place es)) from 0 (length (owed_of job es)) (λ j g h. ap not (told j g (omega arith)))
 
 -- one more place was told
-pub told_more : (job from place : ℕ) (es : List Entry) → ((k : ℕ) → from ≤ k → k < place → is_told job k es ≡ true) → is_told job place es ≡ true → (k : ℕ) → from ≤ k → k < place + 1 → is_told job k es ≡ true
-told_more job from place es told here k f h = elim (cases_lt k place) [
+pub sent_more : (job from place : ℕ) (es : List Entry) → ((k : ℕ) → from ≤ k → k < place → is_sent job k es ≡ true) → is_sent job place es ≡ true → (k : ℕ) → from ≤ k → k < place + 1 → is_sent job k es ≡ true
+sent_more job from place es told here k f h = elim (cases_lt k place) [
   | inl less ↦ told k f less
-  | inr over ↦ (let same : place ≡ k = omega arith in subst (λ n. is_told job n es ≡ true) same here)
+  | inr over ↦ (let same : place ≡ k = omega arith in subst (λ n. is_sent job n es ≡ true) same here)
 ]
 
 -- ---- a job owes few
@@ -74,9 +76,9 @@ few_held false x o h k = k
 
 held_few : (job : ℕ) (before es : List Entry) → MayAllFollow before es → length (owed_by (find (λ h. h.job == job) (holdings es)) None) ≤ 8192
 held_few job before [] m = omega arith
-held_few job before (Held j tag ovn version owed ∷ es) m =
-    few_held (j == job) (record { job = j; tag = tag; ovn = ovn; version = version; owed = owed }) (find (λ (h : Holding). h.job == job) (holdings es)) m.0.coding.valid_owed.0
-    (held_few job (before ++ Held j tag ovn version owed ∷ []) es m.1)
+held_few job before (Held holding ∷ es) m =
+    few_held (holding.job == job) holding (find (λ (h : Holding). h.job == job) (holdings es)) m.0.coding.valid_owed.0
+    (held_few job (before ++ Held holding ∷ []) es m.1)
 held_few job before (e ∷ es) m = held_few job (before ++ e ∷ []) es m.1
 
 few_at_end : (end : Ending) → IsEnding end → length (owed_at_end end) ≤ 8192
@@ -89,9 +91,9 @@ few_ended false x o h k = k
 
 ended_few : (job : ℕ) (before es : List Entry) → MayAllFollow before es → length (owed_by None (find (λ d. d.job == job) (endings es))) ≤ 8192
 ended_few job before [] m = omega arith
-ended_few job before (Done j end ∷ es) m =
-    few_ended (j == job) (record { job = j; end = end }) (find (λ (d : Closing). d.job == job) (endings es)) (few_at_end end m.0.coding.1)
-    (ended_few job (before ++ Done j end ∷ []) es m.1)
+ended_few job before (Done ending ∷ es) m =
+    few_ended (ending.job == job) ending (find (λ (d : Closing). d.job == job) (endings es)) (few_at_end ending.end m.0.coding.1)
+    (ended_few job (before ++ Done ending ∷ []) es m.1)
 ended_few job before (e ∷ es) m = ended_few job (before ++ e ∷ []) es m.1
 
 few_by : (h : Option Holding) (d : Option Closing) → length (owed_by h None) ≤ 8192 → length (owed_by None d) ≤ 8192 → length (owed_by h d) ≤ 8192

@@ -5,7 +5,7 @@ use Rattle.std.specs.BTreeMap.{BTreeMap, get}
 use Rattle.std.specs.Ordering.{nat_cmp}
 use Rattle.uss_event.specs.declared.entries.Entry.{Entry}
 use Rattle.uss_event.specs.declared.entries.Entry.TheVariants.{Opened, Held, Done}
-use Rattle.uss_law_book.specs.Readings.{opening_of, last_of, last_holding, has_ended, is_ended}
+use Rattle.uss_law_book.specs.Contents.{opening_of, last_of, last_holding, has_ended, is_ended}
 use Rattle.uss_book_rules.specs.Speaks.{opening_in, holding_in}
 use Rattle.uss_book_index.specs.declared.flight.Flight.{Flight}
 
@@ -29,9 +29,7 @@ ended_in (Some f) = f.ended
 -- what is kept of a flight is what the entries tell
 pub record IsFlight (es : List Entry) (flight : ℕ) (row : Option Flight) : Type 0 where
   pub last : IsIn es opening_in (last_in row) (last_of flight es)
-  pub last_found : is_some (last_in row) ≡ is_some (last_of flight es)
   pub recorded : IsIn es holding_in (recorded_in row) (last_holding flight es)
-  pub recorded_found : is_some (recorded_in row) ≡ is_some (last_holding flight es)
   pub ended : ended_in row ≡ has_ended flight es
 
 abbrev pub AreFlights : BTreeMap ℕ Flight → List Entry → Type 0
@@ -39,16 +37,16 @@ AreFlights flights es = (flight : ℕ) → IsFlight es flight (get nat_cmp fligh
 
 -- the flight of which the entry changes what is kept
 abbrev pub flight_in : List Entry → Entry → Option ℕ
-flight_in es (Opened job moment ask) = Some ask.flight
-flight_in es (Held job tag ovn version owed) = option_map (λ o. o.ask.flight) (opening_of job es)
-flight_in es (Done job end) = option_map (λ o. o.ask.flight) (opening_of job es)
+flight_in es (Opened o) = Some o.ask.flight
+flight_in es (Held h) = option_map (λ o. o.ask.flight) (opening_of h.job es)
+flight_in es (Done d) = option_map (λ o. o.ask.flight) (opening_of d.job es)
 flight_in es _ = None
 
 -- what is kept of the flight after the entry, which comes at this place
 abbrev pub flight_after : Flight → Entry → ℕ → Flight
-flight_after f (Opened job moment ask) n = record { last = Some n; recorded = f.recorded; ended = f.ended }
-flight_after f (Held job tag ovn version owed) n = record { last = f.last; recorded = Some n; ended = f.ended }
-flight_after f (Done job end) n = record { last = f.last; recorded = f.recorded; ended = f.ended || is_ended end }
+flight_after f (Opened o) n = record { last = Some n; recorded = f.recorded; ended = f.ended }
+flight_after f (Held h) n = record { last = f.last; recorded = Some n; ended = f.ended }
+flight_after f (Done d) n = record { last = f.last; recorded = f.recorded; ended = f.ended || is_ended d.end }
 flight_after f _ n = f
 
 abbrev pub has_row : BTreeMap ℕ Flight → ℕ → Bool

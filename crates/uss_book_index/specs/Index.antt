@@ -15,11 +15,11 @@ use Rattle.uss_book_index.specs.Records.{AreRecords, has_pair_room, pair_for}
 
 -- the last job and the last tag, which are how many there are
 abbrev pub job_after : ℕ → Entry → ℕ
-job_after n (Opened job moment ask) = job
+job_after n (Opened o) = o.job
 job_after n _ = n
 
 abbrev pub tag_after : ℕ → Entry → ℕ
-tag_after n (Pending job tag alternative previous key) = tag
+tag_after n (Pending t) = t.tag
 tag_after n _ = n
 
 -- the index tells of these entries

@@ -9,4 +9,4 @@ pub mod Records
 pub mod Index
 pub mod Known
 pub mod Kept
-pub mod Told
+pub mod Sent

@@ -3,8 +3,8 @@ use Rattle.std.specs.Prelude.{ℕ, ◌≡◌, Bool, true, List, length, slice_ge
 use Rattle.std.specs.BTreeMap.{BTreeMap, get}
 use Rattle.uss_event.specs.declared.entries.Entry.{Entry}
 use Rattle.uss_event.specs.declared.entries.Entry.TheVariants.{Pending}
-use Rattle.uss_law_book.specs.Lists.{Trial}
-use Rattle.uss_law_book.specs.Readings.{trials_of}
+use Rattle.uss_event.specs.declared.entries.Trial.{Trial}
+use Rattle.uss_law_book.specs.Contents.{trials_of}
 use Rattle.uss_book_rules.specs.Speaks.{trial_in}
 use Rattle.uss_book_index.specs.declared.ordinal.Ordinal.{Ordinal}
 use Rattle.uss_book_index.specs.OrdinalOrder.{ordinal_cmp}
@@ -26,7 +26,7 @@ AreOrdinals places es = (o : Ordinal) → IsPlaceOf es (place_in (get ordinal_cm
 
 -- which attempt of its job the entry makes, after these
 abbrev pub ordinal_for : List Entry → Entry → Option Ordinal
-ordinal_for es (Pending job tag alternative previous key) = Some (record { job = job; number = length (trials_of job es) })
+ordinal_for es (Pending t) = Some (record { job = t.job; number = length (trials_of t.job es) })
 ordinal_for es _ = None
 
 -- the map has room for its place

@@ -17,14 +17,16 @@ use Rattle.uss_event.specs.declared.details.Proposal.{Proposal}
 use Rattle.uss_event.specs.declared.entries.Owner.{Owner}
 use Rattle.uss_event.specs.declared.entries.Entry.{Entry}
 use Rattle.uss_event.specs.declared.entries.Entry.TheVariants.{Held}
-use Rattle.uss_law_book.specs.Lists.{Opening, Trial, owner_of}
-use Rattle.uss_law_book.specs.Readings.{opening_of, last_holding}
+use Rattle.uss_event.specs.declared.entries.Opening.{Opening}
+use Rattle.uss_event.specs.declared.entries.Trial.{Trial}
+use Rattle.uss_law_book.specs.Lists.{owner_of}
+use Rattle.uss_law_book.specs.Contents.{opening_of, last_holding}
 use Rattle.uss_law_book.specs.Attempts.{attempt_of, recorded_as, held_by}
 use Rattle.uss_book_index.specs.declared.tried.Tried.{Tried}
 
 -- what the entry records, after these
 abbrev pub pair_for : List Entry → Entry → Option OperationalIntent
-pair_for es (Held job tag ovn version owed) = option_map (λ a. recorded_as a ovn version) (attempt_of tag es)
+pair_for es (Held h) = option_map (λ a. recorded_as a h.ovn h.version) (attempt_of h.tag es)
 pair_for es _ = None
 
 -- there is room for a flight's pair, whether or not there is a pair

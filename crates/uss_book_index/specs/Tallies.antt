@@ -3,7 +3,7 @@ use Rattle.std.specs.Prelude.{ℕ, ◌+◌, ◌*◌, ◌<◌, ◌≤◌, ◌^◌
 use Rattle.std.specs.BTreeMap.{BTreeMap, get}
 use Rattle.std.specs.Ordering.{nat_cmp}
 use Rattle.uss_event.specs.declared.entries.Entry.{Entry}
-use Rattle.uss_law_book.specs.Readings.{trials_of}
+use Rattle.uss_law_book.specs.Contents.{trials_of}
 use Rattle.uss_law_book.specs.Changes.{bytes_of}
 use Rattle.uss_book_rules.specs.Speaks.{job_of}
 use Rattle.uss_book_index.specs.declared.tally.Tally.{Tally}

@@ -1,16 +1,15 @@
 // The attempts of a job, by their numbers.
-ghost use Rattle.std.specs.Prelude.{◌≡◌, slice_get, None, is_some};
+ghost use Rattle.std.specs.Prelude.{◌≡◌, slice_get, None};
 ghost use Rattle.std.specs.List.{last_or};
-ghost use Rattle.std.specs.Option.{option_copied, option_and_then};
-ghost use Rattle.uss_law_book.specs.Readings.{trials_of};
-ghost use Rattle.uss_book_rules.specs.Speaks.{trial_in};
+ghost use Rattle.std.specs.Option.{option_copied};
+ghost use Rattle.uss_law_book.specs.Contents.{trials_of};
 ghost use Rattle.uss_book_index.specs.Ordinals.{IsPlaceOf};
 
 use crate::Entries;
-use crate::indexed::at;
+use crate::indexed::{at, trial_in};
 use crate::ordinal::Ordinal;
 use uss_book_rules::Tells;
-use uss_event::Entry;
+use uss_event::Trial;
 
 impl Entries {
     /// Where the attempt stands.
@@ -21,23 +20,21 @@ impl Entries {
     }
 
     /// The job's attempt with this number among the job's, from 0, the oldest first. Takes no memory.
-    pub fn attempt_at(&self, job: u64, number: usize) -> Option<&Entry>
-        ensures says { option_and_then trial_in (option_copied result) ≡ slice_get (trials_of job self.now.entries) number }
-        ensures found { is_some result ≡ is_some (slice_get (trials_of job self.now.entries) number) }
+    pub fn trial_at(&self, job: u64, number: usize) -> Option<&Trial>
+        ensures { option_copied result ≡ slice_get (trials_of job self.now.entries) number }
     {
-        at(self.as_slice(), self.place_of(Ordinal { job, number }))
+        trial_in(at(self.as_slice(), self.place_of(Ordinal { job, number })))
     }
 
     /// The job's last attempt. Takes no memory.
-    pub fn last_attempt(&self, job: u64) -> Option<&Entry>
-        ensures says { option_and_then trial_in (option_copied result) ≡ last_or None (trials_of job self.now.entries) }
-        ensures found { is_some result ≡ is_some (last_or None (trials_of job self.now.entries)) }
+    pub fn last_trial(&self, job: u64) -> Option<&Trial>
+        ensures { option_copied result ≡ last_or None (trials_of job self.now.entries) }
     {
         let made = self.attempts(job);
         if made == 0 {
             None
         } else {
-            self.attempt_at(job, made - 1)
+            self.trial_at(job, made - 1)
         }
     }
 }

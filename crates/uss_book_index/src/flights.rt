@@ -1,6 +1,6 @@
 ghost use Rattle.std.specs.Prelude.{◌≡◌, ◌++◌, ◌∷◌, [], List, length, IsTrue, OnOk};
 ghost use Rattle.uss_event.specs.declared.entries.Entry.{Entry};
-ghost use Rattle.uss_law_book.specs.Readings.{is_ended};
+ghost use Rattle.uss_law_book.specs.Contents.{is_ended};
 ghost use Rattle.uss_law_book.specs.Legal.{IsDue};
 ghost use Rattle.uss_law_book.specs.Orderly.{IsOrderly};
 ghost use Rattle.uss_book_index.specs.Flights.{AreFlights, IsFlight, flight_in, flight_after, has_row_for};
@@ -8,7 +8,7 @@ ghost use Rattle.uss_book_index.specs.Flights.{AreFlights, IsFlight, flight_in, 
 use crate::flight::Flight;
 use std::alloc::{AllocError, Global};
 use std::collections::BTreeMap;
-use uss_event::{Ending, Entry};
+use uss_event::{Closing, Ending, Entry};
 
 /// What is kept of each flight that a list of entries speaks of.
 #[derive(Drop)]
@@ -26,27 +26,27 @@ fn after(flight: Flight, e: &Entry, place: usize) -> Flight
     ensures { result ≡ flight_after flight e.now place }
 {
     match e {
-        Entry::Opened { .. } => Flight {
+        Entry::Opened(_) => Flight {
             last: Some(place),
             recorded: flight.recorded,
             ended: flight.ended,
         },
-        Entry::Held { .. } => Flight {
+        Entry::Held(_) => Flight {
             last: flight.last,
             recorded: Some(place),
             ended: flight.ended,
         },
-        Entry::Done { end, .. } => Flight {
+        Entry::Done(Closing { end, .. }) => Flight {
             last: flight.last,
             recorded: flight.recorded,
             ended: flight.ended || ends(end),
         },
         Entry::Owner(_)
         | Entry::TicketOpen { .. }
-        | Entry::Pending { .. }
-        | Entry::Deciding { .. }
+        | Entry::Pending(_)
+        | Entry::Deciding(_)
         | Entry::TicketGone { .. }
-        | Entry::Sent { .. } => flight,
+        | Entry::Sent(_) => flight,
     }
 }
 

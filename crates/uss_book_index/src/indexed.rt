@@ -7,7 +7,8 @@ ghost use Rattle.uss_event.specs.declared.entries.Entry.{Entry};
 ghost use Rattle.uss_law_book.specs.Coding.{HasCoding};
 ghost use Rattle.uss_law_book.specs.Legal.{IsLegal, MayFollow};
 ghost use Rattle.uss_law_book.specs.Orderly.{IsOrderly};
-ghost use Rattle.uss_book_rules.specs.Speaks.{job_of, opening_in};
+ghost use Rattle.uss_law_book.specs.Contents.{opening_of, trial_of};
+ghost use Rattle.uss_book_rules.specs.Speaks.{job_of, opening_in, trial_in, holding_in, decision_in, ending_in};
 ghost use Rattle.uss_book_index.specs.Marks.{mark_of, has_mark};
 ghost use Rattle.uss_book_index.specs.Firsts.{AreFirsts};
 ghost use Rattle.uss_book_index.specs.Tallies.{AreTallies, CanGrow};
@@ -27,7 +28,7 @@ use crate::records::Records;
 use crate::room::Room;
 use crate::tallies::{Tallies, job_of};
 use std::alloc::{AllocError, Global};
-use uss_event::{Entry, Pair};
+use uss_event::{Closing, Entry, Holding, Opening, Pair, Trial};
 
 /// The entry at the place.
 pub(crate) fn at(entries: &[Entry], place: Option<usize>) -> Option<&Entry>
@@ -46,12 +47,76 @@ pub(crate) fn first<'a>(entries: &'a [Entry], firsts: &Firsts, mark: Mark) -> Op
     at(entries, firsts.place(mark))
 }
 
-fn flight_of(opening: Option<&Entry>) -> Option<u64>
-    ensures { result ≡ option_map (λ o. o.ask.flight) (option_and_then opening_in (option_copied opening.entry)) }
+/// The opening that the entry is, if it is one.
+pub(crate) fn opening_in(found: Option<&Entry>) -> Option<&Opening>
+    ensures { option_copied result ≡ option_and_then opening_in (option_copied found.entry) }
+{
+    match found {
+        Some(Entry::Opened(opening)) => Some(opening),
+        _ => None,
+    }
+}
+
+/// The attempt that the entry is, if it is one.
+pub(crate) fn trial_in(found: Option<&Entry>) -> Option<&Trial>
+    ensures { option_copied result ≡ option_and_then trial_in (option_copied found.entry) }
+{
+    match found {
+        Some(Entry::Pending(trial)) => Some(trial),
+        _ => None,
+    }
+}
+
+/// What the entry says was recorded, if it says so.
+pub(crate) fn holding_in(found: Option<&Entry>) -> Option<&Holding>
+    ensures { option_copied result ≡ option_and_then holding_in (option_copied found.entry) }
+{
+    match found {
+        Some(Entry::Held(holding)) => Some(holding),
+        _ => None,
+    }
+}
+
+/// How the entry says that a job is to end, if it says so.
+pub(crate) fn decision_in(found: Option<&Entry>) -> Option<&Closing>
+    ensures { option_copied result ≡ option_and_then decision_in (option_copied found.entry) }
+{
+    match found {
+        Some(Entry::Deciding(decision)) => Some(decision),
+        _ => None,
+    }
+}
+
+/// How the entry says that a job ended, if it says so.
+pub(crate) fn ending_in(found: Option<&Entry>) -> Option<&Closing>
+    ensures { option_copied result ≡ option_and_then ending_in (option_copied found.entry) }
+{
+    match found {
+        Some(Entry::Done(ending)) => Some(ending),
+        _ => None,
+    }
+}
+
+/// The opening of the job.
+pub(crate) fn opening<'a>(entries: &'a [Entry], firsts: &Firsts, job: u64) -> Option<&'a Opening>
+    ensures { AreFirsts firsts.now.places entries.now → option_copied result ≡ opening_of job entries.now }
+{
+    opening_in(first(entries, firsts, Mark::Opened(job)))
+}
+
+/// The attempt with the tag.
+pub(crate) fn trial<'a>(entries: &'a [Entry], firsts: &Firsts, tag: u64) -> Option<&'a Trial>
+    ensures { AreFirsts firsts.now.places entries.now → option_copied result ≡ trial_of tag entries.now }
+{
+    trial_in(first(entries, firsts, Mark::Pending(tag)))
+}
+
+fn flight_of(opening: Option<&Opening>) -> Option<u64>
+    ensures { result ≡ option_map (λ o. o.ask.flight) (option_copied opening.entry) }
 {
     match opening {
-        Some(Entry::Opened { ask, .. }) => Some(ask.flight),
-        _ => None,
+        Some(opening) => Some(opening.ask.flight),
+        None => None,
     }
 }
 
@@ -60,15 +125,15 @@ fn flight_in(entries: &[Entry], firsts: &Firsts, e: &Entry) -> Option<u64>
     ensures { AreFirsts firsts.now.places entries.now → result ≡ flight_in entries.now e.now }
 {
     match e {
-        Entry::Opened { ask, .. } => Some(ask.flight),
-        Entry::Held { job, .. } => flight_of(first(entries, firsts, Mark::Opened(*job))),
-        Entry::Done { job, .. } => flight_of(first(entries, firsts, Mark::Opened(*job))),
+        Entry::Opened(Opening { ask, .. }) => Some(ask.flight),
+        Entry::Held(Holding { job, .. }) => flight_of(opening(entries, firsts, *job)),
+        Entry::Done(Closing { job, .. }) => flight_of(opening(entries, firsts, *job)),
         Entry::Owner(_)
         | Entry::TicketOpen { .. }
-        | Entry::Pending { .. }
-        | Entry::Deciding { .. }
+        | Entry::Pending(_)
+        | Entry::Deciding(_)
         | Entry::TicketGone { .. }
-        | Entry::Sent { .. } => None,
+        | Entry::Sent(_) => None,
     }
 }
 
@@ -77,18 +142,18 @@ fn ordinal_for(tallies: &Tallies, e: &Entry) -> Option<Ordinal>
     ensures { (es : List Entry) → AreTallies tallies.now.tallies es → result ≡ ordinal_for es e.now }
 {
     match e {
-        Entry::Pending { job, .. } => Some(Ordinal {
+        Entry::Pending(Trial { job, .. }) => Some(Ordinal {
             job: *job,
             number: tallies.tally(*job).attempts,
         }),
         Entry::Owner(_)
-        | Entry::Opened { .. }
+        | Entry::Opened(_)
         | Entry::TicketOpen { .. }
-        | Entry::Held { .. }
-        | Entry::Deciding { .. }
-        | Entry::Done { .. }
+        | Entry::Held(_)
+        | Entry::Deciding(_)
+        | Entry::Done(_)
         | Entry::TicketGone { .. }
-        | Entry::Sent { .. } => None,
+        | Entry::Sent(_) => None,
     }
 }
 
@@ -116,7 +181,7 @@ fn job_after(jobs: u64, e: &Entry) -> u64
     ensures { result ≡ job_after jobs e.now }
 {
     match e {
-        Entry::Opened { job, .. } => *job,
+        Entry::Opened(Opening { job, .. }) => *job,
         _ => jobs,
     }
 }
@@ -125,7 +190,7 @@ fn tag_after(tags: u64, e: &Entry) -> u64
     ensures { result ≡ tag_after tags e.now }
 {
     match e {
-        Entry::Pending { tag, .. } => *tag,
+        Entry::Pending(Trial { tag, .. }) => *tag,
         _ => tags,
     }
 }

@@ -1,5 +1,5 @@
 //! The entries of a supplier's book with an index over them, so that the readers of the book answer in time logarithmic in the
-//! entries; the search for what is still to be told takes that for each place that it passes.
+//! entries; finding the next notification to send takes that for each index that it passes.
 //!
 //! ```
 //! let mut entries = Entries::new(alloc);
@@ -8,7 +8,7 @@
 //!     entries.enter(entry);
 //! }
 //! let opening = entries.open_job(flight);
-//! let place = entries.untold(job, 0); // whom the job is to notify next
+//! let index = entries.unsent(job, 0); // of the next notification to send
 //! ```
 #![tactic(auto)]
 

@@ -1,23 +1,21 @@
 // The operational intent as which an attempt is recorded.
 ghost use Rattle.std.specs.Prelude.{◌≡◌, ◌≤◌, IfOk, IsTrue, All, Some, length};
-ghost use Rattle.std.specs.Option.{option_map, option_copied, option_and_then};
+ghost use Rattle.std.specs.Option.{option_map, option_copied};
 ghost use Rattle.uss_vol4.specs.Volume.{IsVolume};
 ghost use Rattle.uss_intent.specs.Identifiers.{flight_number, ticket_number};
 ghost use Rattle.uss_intent.specs.Texts.{tagged_base};
 ghost use Rattle.uss_law_book.specs.Attempts.{attempt_of, recorded_as};
 ghost use Rattle.uss_law_book.specs.Legal.{IsLegal};
 ghost use Rattle.uss_law_book.specs.Lists.{owner_of};
-ghost use Rattle.uss_book_rules.specs.Speaks.{opening_in, trial_in};
 ghost use Rattle.uss_book_index.specs.Firsts.{AreFirsts};
 ghost use Rattle.uss_book_index.specs.Records.{IsPlan, ArePlanned, pair_by_proposal, pair_by_wish, pair_by_tried, pair_for, ask_of, tried_of};
 
 use crate::firsts::Firsts;
-use crate::indexed::first;
-use crate::marks::Mark;
+use crate::indexed::{opening, trial};
 use crate::times::{Times, times_of};
 use crate::tried::Tried;
 use std::alloc::{AllocError, Global};
-use uss_event::{Details, Entry, FlightAsk, Owner, Pair, Proposal, Wish};
+use uss_event::{Details, Entry, FlightAsk, Holding, Opening, Owner, Pair, Proposal, Trial, Wish};
 use uss_intent::{Ovn, Reference, State, flight_id, ticket_id};
 
 fn details_of(priority: u16, proposal: &Proposal) -> Result<Details, AllocError>
@@ -111,33 +109,26 @@ fn owner_of(entries: &[Entry]) -> Option<&Owner>
     }
 }
 
-fn ask_of(opening: Option<&Entry>) -> Option<&FlightAsk>
-    ensures { option_copied result ≡ ask_of (option_and_then opening_in (option_copied opening.entry)) }
+fn ask_of(opening: Option<&Opening>) -> Option<&FlightAsk>
+    ensures { option_copied result ≡ ask_of (option_copied opening.entry) }
 {
     match opening {
-        Some(Entry::Opened { ask, .. }) => Some(ask),
-        _ => None,
+        Some(opening) => Some(&opening.ask),
+        None => None,
     }
 }
 
-fn tried_of(version: u32, attempt: Option<&Entry>) -> Option<Tried>
-    ensures { result ≡ tried_of version (option_and_then trial_in (option_copied attempt.entry)) }
+fn tried_of(version: u32, trial: Option<&Trial>) -> Option<Tried>
+    ensures { result ≡ tried_of version (option_copied trial.entry) }
 {
-    match attempt {
-        Some(
-            Entry::Pending {
-                job,
-                tag,
-                alternative,
-                ..
-            },
-        ) => Some(Tried {
-            job: *job,
-            tag: *tag,
-            alternative: *alternative,
+    match trial {
+        Some(trial) => Some(Tried {
+            job: trial.job,
+            tag: trial.tag,
+            alternative: trial.alternative,
             version,
         }),
-        _ => None,
+        None => None,
     }
 }
 
@@ -153,7 +144,7 @@ fn pair_by_tried(
     ensures { IfOk result (λ p. p ≡ pair_by_tried entries.now ovn.now (Some tried)) }
 {
     match owner_of(entries) {
-        Some(owner) => match ask_of(first(entries, firsts, Mark::Opened(tried.job))) {
+        Some(owner) => match ask_of(opening(entries, firsts, tried.job)) {
             Some(ask) => pair_by_wish(alloc, owner, ask, tried, ovn),
             None => Ok(None),
         },
@@ -173,7 +164,7 @@ fn pair_by_tag(
     requires index { AreFirsts firsts.now.places entries.now }
     ensures { IfOk result (λ p. p ≡ option_map (λ a. recorded_as a ovn.now version) (attempt_of tag entries.now)) }
 {
-    match tried_of(version, first(entries, firsts, Mark::Pending(tag))) {
+    match tried_of(version, trial(entries, firsts, tag)) {
         Some(tried) => pair_by_tried(alloc, entries, firsts, tried, ovn),
         None => Ok(None),
     }
@@ -191,19 +182,21 @@ pub(crate) fn pair_for(
     ensures { IfOk result (λ p. p ≡ pair_for entries.now e.now) }
 {
     match e {
-        Entry::Held {
-            tag,
-            ovn,
-            version,
-            ..
-        } => pair_by_tag(alloc, entries, firsts, *tag, ovn, *version),
+        Entry::Held(
+            Holding {
+                tag,
+                ovn,
+                version,
+                ..
+            },
+        ) => pair_by_tag(alloc, entries, firsts, *tag, ovn, *version),
         Entry::Owner(_)
-        | Entry::Opened { .. }
+        | Entry::Opened(_)
         | Entry::TicketOpen { .. }
-        | Entry::Pending { .. }
-        | Entry::Deciding { .. }
-        | Entry::Done { .. }
+        | Entry::Pending(_)
+        | Entry::Deciding(_)
+        | Entry::Done(_)
         | Entry::TicketGone { .. }
-        | Entry::Sent { .. } => Ok(None),
+        | Entry::Sent(_) => Ok(None),
     }
 }

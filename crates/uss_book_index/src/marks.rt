@@ -1,9 +1,9 @@
 ghost use Rattle.std.specs.Prelude.{◌≡◌};
 ghost use Rattle.uss_book_index.specs.Marks.{mark_of};
 
-use uss_event::Entry;
+use uss_event::{Closing, Entry, Holding, Opening, Sending, Trial};
 
-/// What an entry is looked up by: its kind, and the job, the tag, or the job and the place that it speaks of.
+/// What an entry is looked up by: its kind, and the job, the tag, or the job and the index of a notification.
 #[derive(Clone, Copy, PartialEq, Eq, PartialOrd, Ord, Drop)]
 pub(crate) enum Mark {
     Owner,
@@ -23,13 +23,13 @@ pub(crate) fn mark_of(entry: &Entry) -> Mark
 {
     match entry {
         Entry::Owner(_) => Mark::Owner,
-        Entry::Opened { job, .. } => Mark::Opened(*job),
+        Entry::Opened(Opening { job, .. }) => Mark::Opened(*job),
         Entry::TicketOpen { job } => Mark::TicketOpen(*job),
-        Entry::Pending { tag, .. } => Mark::Pending(*tag),
-        Entry::Held { job, .. } => Mark::Held(*job),
-        Entry::Deciding { job, .. } => Mark::Deciding(*job),
-        Entry::Done { job, .. } => Mark::Done(*job),
+        Entry::Pending(Trial { tag, .. }) => Mark::Pending(*tag),
+        Entry::Held(Holding { job, .. }) => Mark::Held(*job),
+        Entry::Deciding(Closing { job, .. }) => Mark::Deciding(*job),
+        Entry::Done(Closing { job, .. }) => Mark::Done(*job),
         Entry::TicketGone { job } => Mark::TicketGone(*job),
-        Entry::Sent { job, place } => Mark::Sent(*job, *place),
+        Entry::Sent(Sending { job, index }) => Mark::Sent(*job, *index),
     }
 }

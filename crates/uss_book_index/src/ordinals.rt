@@ -1,6 +1,6 @@
 ghost use Rattle.std.specs.Prelude.{◌≡◌, ◌++◌, ◌∷◌, [], List, length, slice_get, IsTrue, OnOk};
 ghost use Rattle.uss_event.specs.declared.entries.Entry.{Entry};
-ghost use Rattle.uss_law_book.specs.Readings.{trials_of};
+ghost use Rattle.uss_law_book.specs.Contents.{trials_of};
 ghost use Rattle.uss_book_index.specs.Ordinals.{IsPlaceOf, AreOrdinals, has_ordinal_room, ordinal_for};
 
 use crate::ordinal::Ordinal;

@@ -1,7 +1,7 @@
 ghost use Rattle.std.specs.Prelude.{◌≡◌, ◌++◌, ◌∷◌, [], List, IsTrue, OnOk};
 ghost use Rattle.std.specs.Option.{option_copied};
 ghost use Rattle.uss_event.specs.declared.entries.Entry.{Entry};
-ghost use Rattle.uss_law_book.specs.Readings.{last_holding};
+ghost use Rattle.uss_law_book.specs.Contents.{last_holding};
 ghost use Rattle.uss_law_book.specs.Attempts.{held_by};
 ghost use Rattle.uss_law_book.specs.Legal.{IsDue};
 ghost use Rattle.uss_law_book.specs.Orderly.{IsOrderly};

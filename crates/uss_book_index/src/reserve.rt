@@ -3,7 +3,7 @@ ghost use Rattle.std.specs.Prelude.{◌≡◌, ◌↔◌, IsTrue, ◌≤◌, ◌
 ghost use Rattle.std.specs.List.{list_any};
 ghost use Rattle.uss_law_book.specs.Coding.{HasCoding, record_length, journal_length};
 ghost use Rattle.uss_law_book.specs.Legal.{IsLegal, IsDue, MayFollow};
-ghost use Rattle.uss_law_book.specs.Readings.{owed_at_end};
+ghost use Rattle.uss_law_book.specs.Contents.{owed_at_end};
 ghost use Rattle.uss_law_book.specs.Reserve.{need, settled, ReserveCovers};
 ghost use Rattle.uss_book_index.specs.Marks.{has_mark};
 ghost use Rattle.uss_book_index.specs.Firsts.{AreFirsts};
@@ -15,7 +15,7 @@ use crate::index::Index;
 use crate::indexed::first;
 use crate::marks::Mark;
 use uss_book_codec::length_of;
-use uss_event::{Ending, Entry};
+use uss_event::{Closing, Ending, Entry, Holding};
 
 fn has(entries: &[Entry], firsts: &Firsts, mark: Mark) -> bool
     ensures { AreFirsts firsts.now.places entries.now → result ≡ list_any (has_mark mark) entries.now }
@@ -54,21 +54,22 @@ fn taken(entries: &[Entry], firsts: &Firsts, e: &Entry) -> u64
     ensures bound { result ≤ 8388608 }
 {
     match e {
-        Entry::Opened { .. } => 8_388_608,
-        Entry::Held { job, owed, .. } => {
-            64 * owed.len() as u64 + for_ticket(has(entries, firsts, Mark::TicketOpen(*job)))
+        Entry::Opened(_) => 8_388_608,
+        Entry::Held(holding) => {
+            let there = has(entries, firsts, Mark::TicketOpen(holding.job));
+            64 * holding.owed.len() as u64 + for_ticket(there)
         }
-        Entry::Done { job, end } => {
-            let there = has(entries, firsts, Mark::TicketOpen(*job));
-            let decided = has(entries, firsts, Mark::Deciding(*job));
-            64 * owed_at_end(end) as u64 + for_kept_ticket(there, decided)
+        Entry::Done(ending) => {
+            let there = has(entries, firsts, Mark::TicketOpen(ending.job));
+            let decided = has(entries, firsts, Mark::Deciding(ending.job));
+            64 * owed_at_end(&ending.end) as u64 + for_kept_ticket(there, decided)
         }
         Entry::Owner(_)
         | Entry::TicketOpen { .. }
-        | Entry::Pending { .. }
-        | Entry::Deciding { .. }
+        | Entry::Pending(_)
+        | Entry::Deciding(_)
         | Entry::TicketGone { .. }
-        | Entry::Sent { .. } => 0,
+        | Entry::Sent(_) => 0,
     }
 }
 
@@ -77,13 +78,13 @@ fn released(e: &Entry) -> u64
     ensures { result ≡ released e.now }
 {
     match e {
-        Entry::Held { .. } | Entry::Done { .. } => 8_388_608,
-        Entry::TicketGone { .. } | Entry::Sent { .. } => 64,
+        Entry::Held(_) | Entry::Done(_) => 8_388_608,
+        Entry::TicketGone { .. } | Entry::Sent(_) => 64,
         Entry::Owner(_)
-        | Entry::Opened { .. }
+        | Entry::Opened(_)
         | Entry::TicketOpen { .. }
-        | Entry::Pending { .. }
-        | Entry::Deciding { .. } => 0,
+        | Entry::Pending(_)
+        | Entry::Deciding(_) => 0,
     }
 }
 
@@ -107,12 +108,12 @@ fn settled_by(entries: &[Entry], index: &Index, e: &Entry) -> u128
     ensures bound { result ≤ 2 ^ 100 }
 {
     match e {
-        Entry::Owner(_) | Entry::Opened { .. } | Entry::TicketGone { .. } | Entry::Sent { .. } => 5
+        Entry::Owner(_) | Entry::Opened(_) | Entry::TicketGone { .. } | Entry::Sent(_) => 5
             + u128::from(length_of(e)),
-        Entry::Held { job, .. } | Entry::Done { job, .. } => {
+        Entry::Held(Holding { job, .. }) | Entry::Done(Closing { job, .. }) => {
             index.tallies.tally(*job).bytes + (5 + u128::from(length_of(e)))
         }
-        Entry::TicketOpen { .. } | Entry::Pending { .. } | Entry::Deciding { .. } => 0,
+        Entry::TicketOpen { .. } | Entry::Pending(_) | Entry::Deciding(_) => 0,
     }
 }
 

@@ -4,8 +4,8 @@ ghost use Rattle.std.specs.Ordering.{nat_cmp};
 ghost use Rattle.uss_event.specs.declared.entries.Entry.{Entry};
 ghost use Rattle.uss_law_book.specs.Coding.{HasCoding, record_length};
 ghost use Rattle.uss_law_book.specs.Lists.{trials};
-ghost use Rattle.uss_law_book.specs.Readings.{trials_of};
-ghost use Rattle.uss_book_rules.specs.Speaks.{job_of, is_of};
+ghost use Rattle.uss_law_book.specs.Contents.{trials_of};
+ghost use Rattle.uss_book_rules.specs.Speaks.{job_of};
 ghost use Rattle.uss_law_book.specs.Changes.{bytes_of, is_later_of};
 ghost use Rattle.uss_book_index.specs.Tallies.{AreTallies, has_tally, CanGrow};
 
@@ -13,7 +13,7 @@ use crate::tally::Tally;
 use std::alloc::{AllocError, Global};
 use std::collections::BTreeMap;
 use uss_book_codec::length_of;
-use uss_event::Entry;
+use uss_event::{Closing, Entry, Holding, Opening, Sending, Trial};
 
 /// What is counted of each job in a list of entries.
 #[derive(Drop)]
@@ -27,14 +27,14 @@ pub(crate) fn job_of(entry: &Entry) -> u64
 {
     match entry {
         Entry::Owner(_) => 0,
-        Entry::Opened { job, .. }
+        Entry::Opened(Opening { job, .. })
         | Entry::TicketOpen { job }
-        | Entry::Pending { job, .. }
-        | Entry::Held { job, .. }
-        | Entry::Deciding { job, .. }
-        | Entry::Done { job, .. }
+        | Entry::Pending(Trial { job, .. })
+        | Entry::Held(Holding { job, .. })
+        | Entry::Deciding(Closing { job, .. })
+        | Entry::Done(Closing { job, .. })
         | Entry::TicketGone { job }
-        | Entry::Sent { job, .. } => *job,
+        | Entry::Sent(Sending { job, .. }) => *job,
     }
 }
 
@@ -45,33 +45,33 @@ fn added(entry: &Entry) -> u128
     ensures bound { result ≤ 2085482354 }
 {
     match entry {
-        Entry::Owner(_) | Entry::Opened { .. } => 0,
+        Entry::Owner(_) | Entry::Opened(_) => 0,
         Entry::TicketOpen { .. }
-        | Entry::Pending { .. }
-        | Entry::Held { .. }
-        | Entry::Deciding { .. }
-        | Entry::Done { .. }
+        | Entry::Pending(_)
+        | Entry::Held(_)
+        | Entry::Deciding(_)
+        | Entry::Done(_)
         | Entry::TicketGone { .. }
-        | Entry::Sent { .. } => 5 + u128::from(length_of(entry)),
+        | Entry::Sent(_) => 5 + u128::from(length_of(entry)),
     }
 }
 
 /// The attempts that the entry adds to its job's.
-#[tactic(auto, unfolding(uss_law_book::specs::Readings::trials_of))]
+#[tactic(auto, unfolding(uss_law_book::specs::Contents::trials_of))]
 fn tried(entry: &Entry) -> usize
     ensures value { result ≡ length (trials_of (job_of entry.now) (entry.now ∷ [])) }
     ensures bound { result ≤ 1 }
 {
     match entry {
-        Entry::Pending { .. } => 1,
+        Entry::Pending(_) => 1,
         Entry::Owner(_)
-        | Entry::Opened { .. }
+        | Entry::Opened(_)
         | Entry::TicketOpen { .. }
-        | Entry::Held { .. }
-        | Entry::Deciding { .. }
-        | Entry::Done { .. }
+        | Entry::Held(_)
+        | Entry::Deciding(_)
+        | Entry::Done(_)
         | Entry::TicketGone { .. }
-        | Entry::Sent { .. } => 0,
+        | Entry::Sent(_) => 0,
     }
 }
 

@@ -1,28 +1,27 @@
 // What the entries tell.
 ghost use Rattle.std.specs.Prelude.{◌≡◌, find, Some};
 ghost use Rattle.std.specs.List.{list_any};
-ghost use Rattle.std.specs.Option.{option_copied, option_and_then};
+ghost use Rattle.std.specs.Option.{option_copied};
 ghost use Rattle.uss_law_book.specs.Attempts.{held};
-ghost use Rattle.uss_law_book.specs.Readings.{is_closed};
-ghost use Rattle.uss_book_rules.specs.Speaks.{opening_in, trial_in};
+ghost use Rattle.uss_law_book.specs.Contents.{is_closed};
 ghost use Rattle.uss_book_index.specs.Marks.{has_mark};
 ghost use Rattle.uss_book_index.specs.Flights.{IsFlight};
-ghost use Rattle.uss_book_index.specs.Told.{is_by_job, is_unclosed};
+ghost use Rattle.uss_book_index.specs.Sent.{is_by_job, is_unclosed};
 
 use crate::Entries;
 use crate::flight::Flight;
-use crate::indexed::{at, first};
+use crate::indexed::{at, decision_in, ending_in, first, holding_in, opening_in, trial_in};
 use crate::marks::Mark;
 use uss_book_rules::Tells;
-use uss_event::{Entry, Owner, Pair};
+use uss_event::{Closing, Entry, Holding, Opening, Owner, Pair, Trial};
 
 /// Whether the attempt is one of the job.
-fn is_by_job(job: u64, attempt: Option<&Entry>) -> bool
-    ensures { result ≡ is_by_job job (option_and_then trial_in (option_copied attempt.entry)) }
+fn is_by_job(job: u64, trial: Option<&Trial>) -> bool
+    ensures { result ≡ is_by_job job (option_copied trial.entry) }
 {
-    match attempt {
-        Some(Entry::Pending { job: j, .. }) => *j == job,
-        _ => false,
+    match trial {
+        Some(trial) => trial.job == job,
+        None => false,
     }
 }
 
@@ -49,12 +48,12 @@ impl Entries {
     }
 
     /// Whether the opening is that of a job that isn't closed.
-    fn is_unclosed(&self, opening: Option<&Entry>) -> bool
-        ensures { result ≡ is_unclosed self.now.entries (option_and_then opening_in (option_copied opening.entry)) }
+    fn is_unclosed(&self, opening: Option<&Opening>) -> bool
+        ensures { result ≡ is_unclosed self.now.entries (option_copied opening.entry) }
     {
         match opening {
-            Some(Entry::Opened { job, .. }) => !self.is_closed(*job),
-            _ => false,
+            Some(opening) => !self.is_closed(opening.job),
+            None => false,
         }
     }
 
@@ -66,7 +65,7 @@ impl Entries {
     }
 
     /// What the book holds of the flight: the last that was recorded of it, and none where it has ended. Takes no memory.
-    #[tactic(auto, unfolding(uss_law_book::specs::Attempts::held, uss_law_book::specs::Readings::holding))]
+    #[tactic(auto, unfolding(uss_law_book::specs::Attempts::held, uss_law_book::specs::Contents::holding))]
     pub fn held(&self, flight: u64) -> Option<&Pair>
         ensures { option_copied result ≡ held flight self.now.entries }
     {
@@ -89,24 +88,24 @@ impl Tells for Entries {
         self.index.tags as usize
     }
 
-    fn opening(&self, job: u64) -> Option<&Entry> {
-        self.first(Mark::Opened(job))
+    fn opening(&self, job: u64) -> Option<&Opening> {
+        opening_in(self.first(Mark::Opened(job)))
     }
 
-    fn attempt(&self, tag: u64) -> Option<&Entry> {
-        self.first(Mark::Pending(tag))
+    fn trial(&self, tag: u64) -> Option<&Trial> {
+        trial_in(self.first(Mark::Pending(tag)))
     }
 
-    fn recorded(&self, job: u64) -> Option<&Entry> {
-        self.first(Mark::Held(job))
+    fn holding(&self, job: u64) -> Option<&Holding> {
+        holding_in(self.first(Mark::Held(job)))
     }
 
-    fn decision(&self, job: u64) -> Option<&Entry> {
-        self.first(Mark::Deciding(job))
+    fn decision(&self, job: u64) -> Option<&Closing> {
+        decision_in(self.first(Mark::Deciding(job)))
     }
 
-    fn ending(&self, job: u64) -> Option<&Entry> {
-        self.first(Mark::Done(job))
+    fn ending(&self, job: u64) -> Option<&Closing> {
+        ending_in(self.first(Mark::Done(job)))
     }
 
     fn is_held(&self, job: u64) -> bool {
@@ -124,7 +123,7 @@ impl Tells for Entries {
     fn owns(&self, job: u64, tag: u64) -> bool {
         // What is true of the index is brought to the proof.
         let _ = &self.index;
-        is_by_job(job, self.attempt(tag))
+        is_by_job(job, self.trial(tag))
     }
 
     fn is_new(&self) -> bool {
@@ -138,12 +137,12 @@ impl Tells for Entries {
         self.has(Mark::TicketOpen(job))
     }
 
-    fn is_retired(&self, job: u64) -> bool {
+    fn has_gone_entry(&self, job: u64) -> bool {
         self.has(Mark::TicketGone(job))
     }
 
-    fn is_told(&self, job: u64, place: u32) -> bool {
-        self.has(Mark::Sent(job, place))
+    fn is_sent(&self, job: u64, index: u32) -> bool {
+        self.has(Mark::Sent(job, index))
     }
 
     fn owner(&self) -> Option<&Owner> {
@@ -153,22 +152,22 @@ impl Tells for Entries {
         }
     }
 
-    fn open_job(&self, flight: u64) -> Option<&Entry> {
+    fn open_job(&self, flight: u64) -> Option<&Opening> {
         // What is true of the index is brought to the proof.
         let _ = &self.index;
         let last = self.last(flight);
         if self.is_unclosed(last) { last } else { None }
     }
 
-    fn last(&self, flight: u64) -> Option<&Entry> {
-        at(self.as_slice(), self.kept_of(flight).last)
+    fn last(&self, flight: u64) -> Option<&Opening> {
+        opening_in(at(self.as_slice(), self.kept_of(flight).last))
     }
 
     fn has_ended(&self, flight: u64) -> bool {
         self.kept_of(flight).ended
     }
 
-    fn last_recorded(&self, flight: u64) -> Option<&Entry> {
-        at(self.as_slice(), self.kept_of(flight).recorded)
+    fn last_holding(&self, flight: u64) -> Option<&Holding> {
+        holding_in(at(self.as_slice(), self.kept_of(flight).recorded))
     }
 }

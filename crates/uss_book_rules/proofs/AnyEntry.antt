@@ -6,7 +6,7 @@ use Rattle.uss_event.specs.declared.entries.Entry.TheVariants.{Opened, TicketOpe
 use Rattle.uss_event.specs.declared.entries.Entry.TheVariants as Enters
 use Rattle.uss_law_book.specs.Legal.{IsDue, is_owner, is_new}
 use Rattle.uss_book_rules.specs.Next.{is_placed, is_allowed, is_due}
-use Rattle.uss_book_rules.proofs.Tested.{open_from, open_true, open_ticket_from, open_ticket_true, try_from, try_true, hold_from, hold_true, decide_from, decide_true, retire_from, retire_true, tell_from, tell_true}
+use Rattle.uss_book_rules.proofs.Tested.{open_from, open_true, open_ticket_from, open_ticket_true, try_from, try_true, hold_from, hold_true, decide_from, decide_true, retire_from, retire_true, send_from, send_true}
 use Rattle.uss_book_rules.proofs.Ended.{end_from, end_true}
 
 same_from : (a b : Bool) → cond a b (not b) ≡ true → a ≡ b
@@ -23,25 +23,25 @@ same_true false false e = refl
 
 allowed_from : (es : List Entry) (e : Entry) → is_allowed es e ≡ true → IsDue es e
 allowed_from es (Enters.Owner owner) h = tt
-allowed_from es (Opened job moment ask) h = open_from es job ask h
+allowed_from es (Opened o) h = open_from es o.job o.ask h
 allowed_from es (TicketOpen job) h = open_ticket_from es job h
-allowed_from es (Pending job tag alternative previous key) h = try_from es job tag alternative previous key h
-allowed_from es (Held job tag ovn version owed) h = hold_from es job tag h
-allowed_from es (Deciding job end) h = decide_from es job end h
-allowed_from es (Done job end) h = end_from es job end h
+allowed_from es (Pending t) h = try_from es t.job t.tag t.alternative t.previous t.key h
+allowed_from es (Held holding) h = hold_from es holding.job holding.tag h
+allowed_from es (Deciding d) h = decide_from es d.job d.end h
+allowed_from es (Done d) h = end_from es d.job d.end h
 allowed_from es (TicketGone job) h = retire_from es job h
-allowed_from es (Sent job place) h = tell_from es job place h
+allowed_from es (Sent n) h = send_from es n.job n.index h
 
 allowed_true : (es : List Entry) (e : Entry) → IsDue es e → is_allowed es e ≡ true
 allowed_true es (Enters.Owner owner) h = refl
-allowed_true es (Opened job moment ask) h = open_true es job ask h
+allowed_true es (Opened o) h = open_true es o.job o.ask h
 allowed_true es (TicketOpen job) h = open_ticket_true es job h
-allowed_true es (Pending job tag alternative previous key) h = try_true es job tag alternative previous key h
-allowed_true es (Held job tag ovn version owed) h = hold_true es job tag h
-allowed_true es (Deciding job end) h = decide_true es job end h
-allowed_true es (Done job end) h = end_true es job end h
+allowed_true es (Pending t) h = try_true es t.job t.tag t.alternative t.previous t.key h
+allowed_true es (Held holding) h = hold_true es holding.job holding.tag h
+allowed_true es (Deciding d) h = decide_true es d.job d.end h
+allowed_true es (Done d) h = end_true es d.job d.end h
 allowed_true es (TicketGone job) h = retire_true es job h
-allowed_true es (Sent job place) h = tell_true es job place h
+allowed_true es (Sent n) h = send_true es n.job n.index h
 
 pub due_from : (es : List Entry) (e : Entry) → is_due es e ≡ true → (is_owner e ≡ is_new es) × IsDue es e
 unfolding is_due

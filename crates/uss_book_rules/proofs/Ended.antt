@@ -15,8 +15,9 @@ use Rattle.uss_event.specs.declared.asks.Wish.TheVariants.{Put, End}
 use Rattle.uss_event.specs.declared.entries.Ending.{Ending}
 use Rattle.uss_event.specs.declared.entries.Ending.TheVariants.{Conflict, Stale, Cancelled, Ended}
 use Rattle.uss_event.specs.declared.entries.Entry.{Entry}
-use Rattle.uss_law_book.specs.Lists.{Opening, Closing}
-use Rattle.uss_law_book.specs.Readings.{opening_of, is_closed, trials_of, decision_of, is_ticket_open, is_ended}
+use Rattle.uss_event.specs.declared.entries.Opening.{Opening}
+use Rattle.uss_event.specs.declared.entries.Closing.{Closing}
+use Rattle.uss_law_book.specs.Contents.{opening_of, is_closed, trials_of, decision_of, is_ticket_open, is_ended}
 use Rattle.uss_law_book.specs.Legal.{EndsFlight, EndsUntried, EndsPut, EndsWish, MayEnd}
 use Rattle.uss_book_rules.specs.Ends.{same_rule, same_subscriber, same_ending, is_decided_so, ends_untried, ends_put, ends_wish, ends_opening, may_end}
 

@@ -12,8 +12,11 @@ use Rattle.uss_event.specs.declared.asks.Wish.{Wish}
 use Rattle.uss_event.specs.declared.asks.Wish.TheVariants.{Put, End}
 use Rattle.uss_event.specs.declared.entries.Owner.{Owner}
 use Rattle.uss_event.specs.declared.entries.Entry.{Entry}
-use Rattle.uss_law_book.specs.Lists.{Opening, Trial, Holding, owner_of}
-use Rattle.uss_law_book.specs.Readings.{opening_of, trial_of, holding}
+use Rattle.uss_event.specs.declared.entries.Opening.{Opening}
+use Rattle.uss_event.specs.declared.entries.Trial.{Trial}
+use Rattle.uss_event.specs.declared.entries.Holding.{Holding}
+use Rattle.uss_law_book.specs.Lists.{owner_of}
+use Rattle.uss_law_book.specs.Contents.{opening_of, trial_of, holding}
 use Rattle.uss_law_book.specs.Attempts.{Attempted, attempted, by_wish, by_opening, by_trial, attempt_of, recorded_as, held_by, held, held_state}
 use Rattle.uss_book_rules.specs.States.{state_by_wish, state_by_owner, state_by_trial, state_by_holding}
 

@@ -19,11 +19,12 @@ use Rattle.uss_event.specs.declared.asks.FlightAsk.{FlightAsk}
 use Rattle.uss_event.specs.declared.entries.Ending.{Ending}
 use Rattle.uss_event.specs.declared.entries.Ending.TheVariants.{Conflict, Stale, Cancelled, Ended}
 use Rattle.uss_event.specs.declared.entries.Entry.{Entry}
-use Rattle.uss_law_book.specs.Lists.{Opening, openings, trials}
-use Rattle.uss_law_book.specs.Readings.{opening_of, is_closed, is_open, open_job_of, last_of, has_ended, trials_of, owns, decision_of, base_of, is_put, puts, is_put_job, is_ticket_open, is_ticket_gone, is_ticket_needed, owed_of, is_told}
+use Rattle.uss_event.specs.declared.entries.Opening.{Opening}
+use Rattle.uss_law_book.specs.Lists.{openings, trials}
+use Rattle.uss_law_book.specs.Contents.{opening_of, is_closed, is_open, open_job_of, last_of, has_ended, trials_of, owns, decision_of, current_ovn_of, is_put, puts, is_put_job, is_ticket_open, is_ticket_gone, is_ticket_needed, owed_of, is_sent}
 use Rattle.uss_law_book.specs.Attempts.{held_state}
-use Rattle.uss_law_book.specs.Legal.{ArePlans, MayWish, IsAfter, MayOpen, MayOpenTicket, IsBlind, MayTry, MayHold, MayEndSo, MayDecide, MayRetire, MayTell}
-use Rattle.uss_book_rules.specs.Due.{are_plans, may_wish, is_later, may_open, is_open_put, may_open_ticket, is_blind, fits_wish, fits_opening, may_try, may_hold, may_end_so, may_end_wish, may_end_opening, may_decide, may_retire, may_tell}
+use Rattle.uss_law_book.specs.Legal.{ArePlans, MayWish, IsAfter, MayOpen, MayOpenTicket, IsBlind, MayTry, MayHold, MayEndSo, MayDecide, MayRetire, MaySend}
+use Rattle.uss_book_rules.specs.Due.{are_plans, may_wish, is_later, may_open, is_open_put, may_open_ticket, is_blind, fits_wish, fits_opening, may_try, may_hold, may_end_so, may_end_wish, may_end_opening, may_decide, may_retire, may_send}
 
 none_from : {X : Type 0} (o : Option X) → is_none o ≡ true → o ≡ None
 none_from None h = refl
@@ -183,17 +184,17 @@ fits_wish_from es job alternative key (Put to priority rounds proposals) h =
 record FitsOpening (es : List Entry) (job alternative : ℕ) (previous : Option (List ℕ)) (key : List (List ℕ)) (o : Option Opening) : Type 0 where
   pub opening : Opening
   pub is : o ≡ Some opening
-  pub base : previous ≡ base_of opening.ask.flight es
+  pub base : previous ≡ current_ovn_of opening.ask.flight es
   pub wish : FitsWish es job alternative key opening.ask.wish
 
 fits_opening_from : (es : List Entry) (job alternative : ℕ) (previous : Option (List ℕ)) (key : List (List ℕ)) (o : Option Opening) → fits_opening es job alternative previous key o ≡ true → FitsOpening es job alternative previous key o
 fits_opening_from es job alternative previous key None h = absurd cc
 fits_opening_from es job alternative previous key (Some o) h =
-    let a = and_parts (option_eq same_text previous (base_of o.ask.flight es)) (fits_wish es job alternative key o.ask.wish) h in
+    let a = and_parts (option_eq same_text previous (current_ovn_of o.ask.flight es)) (fits_wish es job alternative key o.ask.wish) h in
     record {
       opening = o;
       is = refl;
-      base = (option_is_same same_text text_is_same previous (base_of o.ask.flight es)).0 a.0;
+      base = (option_is_same same_text text_is_same previous (current_ovn_of o.ask.flight es)).0 a.0;
       wish = fits_wish_from es job alternative key o.ask.wish a.1;
     }
 
@@ -218,7 +219,7 @@ try_from es job tag alternative previous key h =
       round = f.wish.round;
       next = eqb-true tag _ d.0;
       one_of = f.wish.one_of;
-      base = f.base;
+      current = f.base;
       few = leb-true (length key) 1024 e.0;
       blind = f.wish.blind;
     }
@@ -232,7 +233,7 @@ try_true es job tag alternative previous key h =
     let wish : fits_wish es job alternative key h.opening.ask.wish ≡ true = ap (fits_wish es job alternative key) h.unfinished.put ∙ fits in
     let opening : fits_opening es job alternative previous key (opening_of job es) ≡ true =
     ap (fits_opening es job alternative previous key) h.unfinished.opened
-    ∙ and_from (option_eq same_text previous (base_of h.opening.ask.flight es)) _ ((option_is_same same_text text_is_same previous (base_of h.opening.ask.flight es)).1 h.base) wish in
+    ∙ and_from (option_eq same_text previous (current_ovn_of h.opening.ask.flight es)) _ ((option_is_same same_text text_is_same previous (current_ovn_of h.opening.ask.flight es)).1 h.current) wish in
     and_from (not (is_closed job es)) _ (not_from_false (is_closed job es) h.unfinished.unclosed)
     (and_from (is_ticket_open job es) _ h.ticket
     (and_from (is_none (decision_of job es)) _ (none_true (decision_of job es) h.undecided)
@@ -323,15 +324,15 @@ retire_true es job h =
     (and_from (is_ticket_open job es) _ h.heard_open
     (and_from (not (is_ticket_gone job es)) (not (is_ticket_needed job es)) (not_from_false (is_ticket_gone job es) h.not_gone) (not_from_false (is_ticket_needed job es) h.unneeded))))
 
-pub tell_from : (es : List Entry) (job place : ℕ) → may_tell es job place ≡ true → MayTell es job place
-unfolding may_tell
-tell_from es job place h =
+pub send_from : (es : List Entry) (job index : ℕ) → may_send es job index ≡ true → MaySend es job index
+unfolding may_send
+send_from es job index h =
     let a = and_parts (is_closed job es) _ h in
-    let b = and_parts (nat_lt place (length (owed_of job es))) (not (is_told job place es)) a.1 in
-    record { closed = a.0; owed = ltb-true place _ b.0; new = not-true (is_told job place es) b.1 }
+    let b = and_parts (nat_lt index (length (owed_of job es))) (not (is_sent job index es)) a.1 in
+    record { closed = a.0; owed = ltb-true index _ b.0; new = not-true (is_sent job index es) b.1 }
 
-pub tell_true : (es : List Entry) (job place : ℕ) → MayTell es job place → may_tell es job place ≡ true
-unfolding may_tell
-tell_true es job place h =
+pub send_true : (es : List Entry) (job index : ℕ) → MaySend es job index → may_send es job index ≡ true
+unfolding may_send
+send_true es job index h =
     and_from (is_closed job es) _ h.closed
-    (and_from (nat_lt place (length (owed_of job es))) (not (is_told job place es)) (lt-ltb place _ h.owed) (not_from_false (is_told job place es) h.new))
+    (and_from (nat_lt index (length (owed_of job es))) (not (is_sent job index es)) (lt-ltb index _ h.owed) (not_from_false (is_sent job index es) h.new))

@@ -15,8 +15,9 @@ use Rattle.uss_event.specs.declared.asks.FlightAsk.{FlightAsk}
 use Rattle.uss_event.specs.declared.entries.Ending.{Ending}
 use Rattle.uss_event.specs.declared.entries.Ending.TheVariants.{Conflict, Stale, Cancelled, Ended}
 use Rattle.uss_event.specs.declared.entries.Entry.{Entry}
-use Rattle.uss_law_book.specs.Lists.{Opening, openings, trials}
-use Rattle.uss_law_book.specs.Readings.{opening_of, is_closed, is_open, open_job_of, last_of, has_ended, trials_of, owns, decision_of, base_of, is_put_job, is_ticket_open, is_ticket_gone, is_ticket_needed, owed_of, is_told}
+use Rattle.uss_event.specs.declared.entries.Opening.{Opening}
+use Rattle.uss_law_book.specs.Lists.{openings, trials}
+use Rattle.uss_law_book.specs.Contents.{opening_of, is_closed, is_open, open_job_of, last_of, has_ended, trials_of, owns, decision_of, current_ovn_of, is_put_job, is_ticket_open, is_ticket_gone, is_ticket_needed, owed_of, is_sent}
 use Rattle.uss_law_book.specs.Attempts.{held_state}
 
 -- ---- a job is opened
@@ -60,7 +61,7 @@ fits_wish es job alternative key (Put to priority rounds proposals) =
 abbrev pub fits_opening : List Entry → (job alternative : ℕ) → Option (List ℕ) → List (List ℕ) → Option Opening → Bool
 fits_opening es job alternative previous key None = false
 fits_opening es job alternative previous key (Some o) =
-    option_eq same_text previous (base_of o.ask.flight es) && fits_wish es job alternative key o.ask.wish
+    option_eq same_text previous (current_ovn_of o.ask.flight es) && fits_wish es job alternative key o.ask.wish
 
 unfoldable pub may_try : List Entry → (job tag alternative : ℕ) → Option (List ℕ) → List (List ℕ) → Bool
 may_try es job tag alternative previous key =
@@ -96,5 +97,5 @@ unfoldable pub may_retire : List Entry → ℕ → Bool
 may_retire es job =
     is_put_job job es && (is_closed job es && (is_ticket_open job es && (not (is_ticket_gone job es) && not (is_ticket_needed job es))))
 
-unfoldable pub may_tell : List Entry → (job place : ℕ) → Bool
-may_tell es job place = is_closed job es && (nat_lt place (length (owed_of job es)) && not (is_told job place es))
+unfoldable pub may_send : List Entry → (job index : ℕ) → Bool
+may_send es job index = is_closed job es && (nat_lt index (length (owed_of job es)) && not (is_sent job index es))

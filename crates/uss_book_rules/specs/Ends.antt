@@ -11,8 +11,9 @@ use Rattle.uss_event.specs.declared.asks.Wish.TheVariants.{Put, End}
 use Rattle.uss_event.specs.declared.entries.Ending.{Ending}
 use Rattle.uss_event.specs.declared.entries.Ending.TheVariants.{Conflict, Stale, Cancelled, Ended}
 use Rattle.uss_event.specs.declared.entries.Entry.{Entry}
-use Rattle.uss_law_book.specs.Lists.{Opening, Closing}
-use Rattle.uss_law_book.specs.Readings.{opening_of, is_closed, trials_of, decision_of, is_ticket_open, is_ended}
+use Rattle.uss_event.specs.declared.entries.Opening.{Opening}
+use Rattle.uss_event.specs.declared.entries.Closing.{Closing}
+use Rattle.uss_law_book.specs.Contents.{opening_of, is_closed, trials_of, decision_of, is_ticket_open, is_ended}
 
 -- ---- two endings are the same in their kind and in each of their fields
 

@@ -6,8 +6,11 @@ use Rattle.uss_event.specs.declared.asks.Wish.{Wish}
 use Rattle.uss_event.specs.declared.asks.Wish.TheVariants.{Put, End}
 use Rattle.uss_event.specs.declared.entries.Owner.{Owner}
 use Rattle.uss_event.specs.declared.entries.Entry.{Entry}
-use Rattle.uss_law_book.specs.Lists.{Opening, Trial, Holding, owner_of}
-use Rattle.uss_law_book.specs.Readings.{opening_of, trial_of}
+use Rattle.uss_event.specs.declared.entries.Opening.{Opening}
+use Rattle.uss_event.specs.declared.entries.Trial.{Trial}
+use Rattle.uss_event.specs.declared.entries.Holding.{Holding}
+use Rattle.uss_law_book.specs.Lists.{owner_of}
+use Rattle.uss_law_book.specs.Contents.{opening_of, trial_of}
 
 -- where the alternative is one of the wish's
 abbrev pub state_by_wish : ℕ → Wish → Option State

@@ -1,13 +1,12 @@
 // Whether an entry is due after those of a book.
 ghost use Rattle.std.specs.Prelude.{◌≡◌, is_some, length};
-ghost use Rattle.std.specs.Option.{option_copied, option_and_then, option_map, option_eq};
+ghost use Rattle.std.specs.Option.{option_copied, option_map, option_eq};
 ghost use Rattle.uss_intent.specs.Same.{same_text};
-ghost use Rattle.uss_law_book.specs.Readings.{puts, is_closed, is_open, is_put_job, is_ticket_gone, holding, is_by, needed_for, is_ticket_needed, owed_by, owed_of};
-ghost use Rattle.uss_book_rules.specs.Speaks.{opening_in, holding_in, decision_in, ending_in};
-ghost use Rattle.uss_book_rules.specs.Due.{is_open_put, may_open_ticket, is_blind, fits_wish, fits_opening, may_try, may_hold, may_end_so, may_end_opening, may_decide, may_retire, may_tell};
+ghost use Rattle.uss_law_book.specs.Contents.{puts, is_closed, is_open, is_put_job, is_ticket_gone, holding, is_by, needed_for, is_ticket_needed, owed_by, owed_of};
+ghost use Rattle.uss_book_rules.specs.Due.{is_open_put, may_open_ticket, is_blind, fits_wish, fits_opening, may_try, may_hold, may_end_so, may_end_opening, may_decide, may_retire, may_send};
 
 use crate::Tells;
-use uss_event::{Ending, Entry, Wish};
+use uss_event::{Closing, Ending, Holding, Opening, Wish};
 use uss_intent::{MOST_OVNS, Ovn, Ovns};
 
 /// Whether a job recorded something or ended.
@@ -17,11 +16,11 @@ pub fn is_closed<T: Tells>(book: &T, job: u64) -> bool
     book.is_held(job) || book.is_done(job)
 }
 
-fn wants_put(opening: Option<&Entry>) -> bool
-    ensures { result ≡ puts (option_and_then opening_in (option_copied opening.entry)) }
+fn wants_put(opening: Option<&Opening>) -> bool
+    ensures { result ≡ puts (option_copied opening.entry) }
 {
     match opening {
-        Some(Entry::Opened { ask, .. }) => matches!(ask.wish, Wish::Put { .. }),
+        Some(Opening { ask, .. }) => matches!(ask.wish, Wish::Put { .. }),
         _ => false,
     }
 }
@@ -37,7 +36,7 @@ fn is_put_job<T: Tells>(book: &T, job: u64) -> bool
 pub fn is_open<T: Tells>(book: &T, job: u64) -> bool
     ensures { result ≡ is_open job (T.entries book.now) }
 {
-    matches!(book.opening(job), Some(Entry::Opened { .. })) && !is_closed(book, job)
+    book.opening(job).is_some() && !is_closed(book, job)
 }
 
 /// Whether the job's ticket may be heard to be there.
@@ -57,24 +56,24 @@ pub fn may_hold<T: Tells>(book: &T, job: u64, tag: u64) -> bool
 }
 
 /// What is recorded of the flight: nothing once it has ended.
-#[tactic(auto, unfolding(uss_law_book::specs::Readings::holding))]
-pub(crate) fn holding<T: Tells>(book: &T, flight: u64) -> Option<&Entry>
-    ensures { option_and_then holding_in (option_copied result) ≡ holding flight (T.entries book.now) }
+#[tactic(auto, unfolding(uss_law_book::specs::Contents::holding))]
+pub(crate) fn holding<T: Tells>(book: &T, flight: u64) -> Option<&Holding>
+    ensures { option_copied result ≡ holding flight (T.entries book.now) }
 {
     if book.has_ended(flight) {
         None
     } else {
-        book.last_recorded(flight)
+        book.last_holding(flight)
     }
 }
 
-fn is_base(previous: &Option<Ovn>, recorded: Option<&Entry>) -> bool
-    ensures { result ≡ option_eq same_text previous.now (option_map (λ h. h.ovn) (option_and_then holding_in (option_copied recorded.entry))) }
+fn is_base(previous: &Option<Ovn>, recorded: Option<&Holding>) -> bool
+    ensures { result ≡ option_eq same_text previous.now (option_map (λ h. h.ovn) (option_copied recorded.entry)) }
 {
     match (previous, recorded) {
-        (None, Some(Entry::Held { .. })) => false,
+        (None, Some(_)) => false,
         (None, _) => true,
-        (Some(previous), Some(Entry::Held { ovn, .. })) => previous == ovn,
+        (Some(previous), Some(Holding { ovn, .. })) => previous == ovn,
         (Some(_), _) => false,
     }
 }
@@ -109,12 +108,12 @@ fn fits_opening<T: Tells>(
     alternative: u8,
     previous: &Option<Ovn>,
     key: &Ovns,
-    opening: Option<&Entry>,
+    opening: Option<&Opening>,
 ) -> bool
-    ensures { result ≡ fits_opening (T.entries book.now) job alternative previous.now key.now (option_and_then opening_in (option_copied opening.entry)) }
+    ensures { result ≡ fits_opening (T.entries book.now) job alternative previous.now key.now (option_copied opening.entry) }
 {
     match opening {
-        Some(Entry::Opened { ask, .. }) => {
+        Some(Opening { ask, .. }) => {
             is_base(previous, holding(book, ask.flight))
                 && fits_wish(book, job, alternative, key, &ask.wish)
         }
@@ -122,10 +121,10 @@ fn fits_opening<T: Tells>(
     }
 }
 
-fn is_decided(decision: Option<&Entry>) -> bool
-    ensures { result ≡ is_some (option_and_then decision_in (option_copied decision.entry)) }
+fn is_decided(decision: Option<&Closing>) -> bool
+    ensures { result ≡ is_some (option_copied decision.entry) }
 {
-    matches!(decision, Some(Entry::Deciding { .. }))
+    decision.is_some()
 }
 
 /// Whether the job may make this attempt.
@@ -158,11 +157,11 @@ fn may_end_so(tried: usize, rounds: u8, end: &Ending) -> bool
     }
 }
 
-fn may_end_opening(tried: usize, end: &Ending, opening: Option<&Entry>) -> bool
-    ensures { result ≡ may_end_opening tried end.now (option_and_then opening_in (option_copied opening.entry)) }
+fn may_end_opening(tried: usize, end: &Ending, opening: Option<&Opening>) -> bool
+    ensures { result ≡ may_end_opening tried end.now (option_copied opening.entry) }
 {
     match opening {
-        Some(Entry::Opened { ask, .. }) => match &ask.wish {
+        Some(Opening { ask, .. }) => match &ask.wish {
             Wish::Put { rounds, .. } => may_end_so(tried, *rounds, end),
             Wish::End => false,
         },
@@ -182,35 +181,35 @@ pub fn may_decide<T: Tells>(book: &T, job: u64, end: &Ending) -> bool
 }
 
 /// Whether the job's ticket was heard as gone.
-#[tactic(auto, unfolding(uss_law_book::specs::Readings::is_ticket_gone))]
+#[tactic(auto, unfolding(uss_law_book::specs::Contents::is_ticket_gone))]
 pub fn is_ticket_gone<T: Tells>(book: &T, job: u64) -> bool
     ensures { result ≡ is_ticket_gone job (T.entries book.now) }
 {
-    book.is_retired(job) || (book.is_done(job) && is_decided(book.decision(job)))
+    book.has_gone_entry(job) || (book.is_done(job) && is_decided(book.decision(job)))
 }
 
-fn is_by(job: u64, recorded: Option<&Entry>) -> bool
-    ensures { result ≡ is_by job (option_and_then holding_in (option_copied recorded.entry)) }
+fn is_by(job: u64, recorded: Option<&Holding>) -> bool
+    ensures { result ≡ is_by job (option_copied recorded.entry) }
 {
     match recorded {
-        Some(Entry::Held { job: by, .. }) => *by == job,
+        Some(Holding { job: by, .. }) => *by == job,
         _ => false,
     }
 }
 
-fn needed_for<T: Tells>(book: &T, job: u64, opening: Option<&Entry>) -> bool
-    ensures { result ≡ needed_for job (T.entries book.now) (option_and_then opening_in (option_copied opening.entry)) }
+fn needed_for<T: Tells>(book: &T, job: u64, opening: Option<&Opening>) -> bool
+    ensures { result ≡ needed_for job (T.entries book.now) (option_copied opening.entry) }
 {
     match opening {
-        Some(Entry::Opened { ask, .. }) => {
-            !book.has_ended(ask.flight) && is_by(job, book.last_recorded(ask.flight))
+        Some(Opening { ask, .. }) => {
+            !book.has_ended(ask.flight) && is_by(job, book.last_holding(ask.flight))
         }
         _ => false,
     }
 }
 
 /// Whether the job's ticket is needed while what the job recorded is the last of its flight.
-#[tactic(auto, unfolding(uss_law_book::specs::Readings::is_ticket_needed))]
+#[tactic(auto, unfolding(uss_law_book::specs::Contents::is_ticket_needed))]
 fn is_ticket_needed<T: Tells>(book: &T, job: u64) -> bool
     ensures { result ≡ is_ticket_needed job (T.entries book.now) }
 {
@@ -230,15 +229,15 @@ pub fn may_retire<T: Tells>(book: &T, job: u64) -> bool
 }
 
 /// How many a closed job is to notify.
-fn owed_count(recorded: Option<&Entry>, ending: Option<&Entry>) -> usize
-    ensures { result ≡ length (owed_by (option_and_then holding_in (option_copied recorded.entry)) (option_and_then ending_in (option_copied ending.entry))) }
+fn owed_count(recorded: Option<&Holding>, ending: Option<&Closing>) -> usize
+    ensures { result ≡ length (owed_by (option_copied recorded.entry) (option_copied ending.entry)) }
 {
     match (recorded, ending) {
-        (Some(Entry::Held { owed, .. }), _) => owed.len(),
+        (Some(Holding { owed, .. }), _) => owed.len(),
         (
             _,
             Some(
-                Entry::Done {
+                Closing {
                     end: Ending::Ended { owed },
                     ..
                 },
@@ -249,19 +248,19 @@ fn owed_count(recorded: Option<&Entry>, ending: Option<&Entry>) -> usize
 }
 
 /// How many notifications a closed job owes, answered or not. Takes no memory.
-#[tactic(auto, unfolding(uss_law_book::specs::Readings::owed_of))]
+#[tactic(auto, unfolding(uss_law_book::specs::Contents::owed_of))]
 pub fn owed_by<T: Tells>(book: &T, job: u64) -> usize
     ensures { result ≡ length (owed_of job (T.entries book.now)) }
 {
-    owed_count(book.recorded(job), book.ending(job))
+    owed_count(book.holding(job), book.ending(job))
 }
 
-/// Whether the notification at this place of those that the job owes may be answered.
-#[tactic(auto, unfolding(crate::specs::Due::may_tell, uss_law_book::specs::Readings::owed_of))]
-pub fn may_tell<T: Tells>(book: &T, job: u64, place: u32) -> bool
-    ensures { result ≡ may_tell (T.entries book.now) job place }
+/// Whether the notification with this index among those that the job owes may be answered.
+#[tactic(auto, unfolding(crate::specs::Due::may_send, uss_law_book::specs::Contents::owed_of))]
+pub fn may_send<T: Tells>(book: &T, job: u64, index: u32) -> bool
+    ensures { result ≡ may_send (T.entries book.now) job index }
 {
     is_closed(book, job)
-        && (place as usize) < owed_count(book.recorded(job), book.ending(job))
-        && !book.is_told(job, place)
+        && (index as usize) < owed_count(book.holding(job), book.ending(job))
+        && !book.is_sent(job, index)
 }

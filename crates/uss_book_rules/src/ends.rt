@@ -1,13 +1,12 @@
 // Whether a job may end without recording anything.
 ghost use Rattle.std.specs.Prelude.{◌≡◌};
-ghost use Rattle.std.specs.Option.{option_copied, option_and_then};
-ghost use Rattle.uss_law_book.specs.Readings.{is_ended};
-ghost use Rattle.uss_book_rules.specs.Speaks.{opening_in, decision_in};
+ghost use Rattle.std.specs.Option.{option_copied};
+ghost use Rattle.uss_law_book.specs.Contents.{is_ended};
 ghost use Rattle.uss_book_rules.specs.Ends.{same_rule, same_ending, is_decided_so, ends_untried, ends_put, ends_wish, ends_opening, may_end};
 
 use crate::Tells;
 use crate::due::is_closed;
-use uss_event::{Ending, Entry, Verdict, Wish};
+use uss_event::{Closing, Ending, Opening, Verdict, Wish};
 
 fn same_rule(a: Verdict, b: Verdict) -> bool
     ensures { result ≡ same_rule a b }
@@ -43,12 +42,12 @@ fn same_ending(a: &Ending, b: &Ending) -> bool
     }
 }
 
-fn is_decided_so(job: u64, end: &Ending, decision: Option<&Entry>) -> bool
-    ensures { result ≡ is_decided_so job end.now (option_and_then decision_in (option_copied decision.entry)) }
+fn is_decided_so(job: u64, end: &Ending, decision: Option<&Closing>) -> bool
+    ensures { result ≡ is_decided_so job end.now (option_copied decision.entry) }
 {
     match decision {
         Some(
-            Entry::Deciding {
+            Closing {
                 job: by,
                 end: decided,
             },
@@ -89,11 +88,11 @@ fn ends_wish<T: Tells>(book: &T, job: u64, end: &Ending, wish: &Wish) -> bool
     }
 }
 
-fn ends_opening<T: Tells>(book: &T, job: u64, end: &Ending, opening: Option<&Entry>) -> bool
-    ensures { result ≡ ends_opening (T.entries book.now) job end.now (option_and_then opening_in (option_copied opening.entry)) }
+fn ends_opening<T: Tells>(book: &T, job: u64, end: &Ending, opening: Option<&Opening>) -> bool
+    ensures { result ≡ ends_opening (T.entries book.now) job end.now (option_copied opening.entry) }
 {
     match opening {
-        Some(Entry::Opened { ask, .. }) => ends_wish(book, job, end, &ask.wish),
+        Some(Opening { ask, .. }) => ends_wish(book, job, end, &ask.wish),
         _ => false,
     }
 }

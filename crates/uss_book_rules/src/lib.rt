@@ -3,7 +3,7 @@
 //! ```
 //! let entries = book.entries(); // any form of a book that `Tells`
 //! if may_open(entries, job, &ask) {
-//!     let entry = Entry::Opened { job, moment, ask };
+//!     let entry = Entry::Opened(Opening { job, moment, ask });
 //!     // is_due(entries, &entry) is true
 //! }
 //! ```
@@ -20,7 +20,7 @@ mod tells;
 
 pub use due::{
     is_closed, is_open, is_ticket_gone, may_decide, may_hold, may_open_ticket, may_retire,
-    may_tell, may_try, owed_by,
+    may_send, may_try, owed_by,
 };
 pub use ends::may_end;
 pub use law::tests_are_exact;

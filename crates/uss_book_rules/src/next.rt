@@ -4,9 +4,9 @@ ghost use Rattle.uss_law_book.specs.Legal.{is_owner};
 ghost use Rattle.uss_book_rules.specs.Next.{is_placed, is_allowed, is_due};
 
 use crate::{
-    Tells, may_decide, may_end, may_hold, may_open, may_open_ticket, may_retire, may_tell, may_try,
+    Tells, may_decide, may_end, may_hold, may_open, may_open_ticket, may_retire, may_send, may_try,
 };
-use uss_event::Entry;
+use uss_event::{Closing, Entry, Holding, Opening, Sending, Trial};
 
 fn is_owner(entry: &Entry) -> bool
     ensures { result ≡ is_owner entry.now }
@@ -29,20 +29,22 @@ fn is_allowed<T: Tells>(book: &T, entry: &Entry) -> bool
 {
     match entry {
         Entry::Owner(_) => true,
-        Entry::Opened { job, ask, .. } => may_open(book, *job, ask),
+        Entry::Opened(Opening { job, ask, .. }) => may_open(book, *job, ask),
         Entry::TicketOpen { job } => may_open_ticket(book, *job),
-        Entry::Pending {
-            job,
-            tag,
-            alternative,
-            previous,
-            key,
-        } => may_try(book, *job, *tag, *alternative, previous, key),
-        Entry::Held { job, tag, .. } => may_hold(book, *job, *tag),
-        Entry::Deciding { job, end } => may_decide(book, *job, end),
-        Entry::Done { job, end } => may_end(book, *job, end),
+        Entry::Pending(
+            Trial {
+                job,
+                tag,
+                alternative,
+                previous,
+                key,
+            },
+        ) => may_try(book, *job, *tag, *alternative, previous, key),
+        Entry::Held(Holding { job, tag, .. }) => may_hold(book, *job, *tag),
+        Entry::Deciding(Closing { job, end }) => may_decide(book, *job, end),
+        Entry::Done(Closing { job, end }) => may_end(book, *job, end),
         Entry::TicketGone { job } => may_retire(book, *job),
-        Entry::Sent { job, place } => may_tell(book, *job, *place),
+        Entry::Sent(Sending { job, index }) => may_send(book, *job, *index),
     }
 }
 

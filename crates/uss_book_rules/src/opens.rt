@@ -1,16 +1,15 @@
 // Whether a job may be opened.
 ghost use Rattle.std.specs.Prelude.{◌≡◌, is_some};
 ghost use Rattle.std.specs.List.{list_all};
-ghost use Rattle.std.specs.Option.{option_copied, option_and_then};
+ghost use Rattle.std.specs.Option.{option_copied};
 ghost use Rattle.uss_event.specs.Plans.{is_plan};
 ghost use Rattle.uss_law_book.specs.Attempts.{held_state};
-ghost use Rattle.uss_book_rules.specs.Speaks.{opening_in, trial_in, holding_in};
 ghost use Rattle.uss_book_rules.specs.States.{state_by_wish, state_by_opening, state_by_owner, state_by_trial, state_by_holding};
 ghost use Rattle.uss_book_rules.specs.Due.{are_plans, may_wish, is_later, may_open};
 
 use crate::Tells;
 use crate::due::holding;
-use uss_event::{Entry, FlightAsk, Owner, Proposal, Wish, may_go, refusal_of};
+use uss_event::{FlightAsk, Holding, Opening, Owner, Proposal, Trial, Wish, may_go, refusal_of};
 use uss_intent::State;
 use uss_vol4::Volume4;
 
@@ -29,17 +28,21 @@ fn state_by_wish(alternative: u8, wish: &Wish) -> Option<State>
     }
 }
 
-fn state_by_opening(alternative: u8, opening: Option<&Entry>) -> Option<State>
-    ensures { result ≡ state_by_opening alternative (option_and_then opening_in (option_copied opening.entry)) }
+fn state_by_opening(alternative: u8, opening: Option<&Opening>) -> Option<State>
+    ensures { result ≡ state_by_opening alternative (option_copied opening.entry) }
 {
     match opening {
-        Some(Entry::Opened { ask, .. }) => state_by_wish(alternative, &ask.wish),
+        Some(Opening { ask, .. }) => state_by_wish(alternative, &ask.wish),
         _ => None,
     }
 }
 
-fn state_by_owner(owner: Option<&Owner>, alternative: u8, opening: Option<&Entry>) -> Option<State>
-    ensures { result ≡ state_by_owner (option_copied owner.entry) alternative (option_and_then opening_in (option_copied opening.entry)) }
+fn state_by_owner(
+    owner: Option<&Owner>,
+    alternative: u8,
+    opening: Option<&Opening>,
+) -> Option<State>
+    ensures { result ≡ state_by_owner (option_copied owner.entry) alternative (option_copied opening.entry) }
 {
     match owner {
         Some(_) => state_by_opening(alternative, opening),
@@ -47,12 +50,12 @@ fn state_by_owner(owner: Option<&Owner>, alternative: u8, opening: Option<&Entry
     }
 }
 
-fn state_by_trial<T: Tells>(book: &T, trial: Option<&Entry>) -> Option<State>
-    ensures { result ≡ state_by_trial (T.entries book.now) (option_and_then trial_in (option_copied trial.entry)) }
+fn state_by_trial<T: Tells>(book: &T, trial: Option<&Trial>) -> Option<State>
+    ensures { result ≡ state_by_trial (T.entries book.now) (option_copied trial.entry) }
 {
     match trial {
         Some(
-            Entry::Pending {
+            Trial {
                 job,
                 alternative,
                 ..
@@ -62,11 +65,11 @@ fn state_by_trial<T: Tells>(book: &T, trial: Option<&Entry>) -> Option<State>
     }
 }
 
-fn state_by_holding<T: Tells>(book: &T, recorded: Option<&Entry>) -> Option<State>
-    ensures { result ≡ state_by_holding (T.entries book.now) (option_and_then holding_in (option_copied recorded.entry)) }
+fn state_by_holding<T: Tells>(book: &T, recorded: Option<&Holding>) -> Option<State>
+    ensures { result ≡ state_by_holding (T.entries book.now) (option_copied recorded.entry) }
 {
     match recorded {
-        Some(Entry::Held { tag, .. }) => state_by_trial(book, book.attempt(*tag)),
+        Some(Holding { tag, .. }) => state_by_trial(book, book.trial(*tag)),
         _ => None,
     }
 }
@@ -121,19 +124,19 @@ fn may_wish(old: Option<State>, wish: &Wish) -> bool
     }
 }
 
-fn is_later(ask: &FlightAsk, last: Option<&Entry>) -> bool
-    ensures { result ≡ is_later ask.now (option_and_then opening_in (option_copied last.entry)) }
+fn is_later(ask: &FlightAsk, last: Option<&Opening>) -> bool
+    ensures { result ≡ is_later ask.now (option_copied last.entry) }
 {
     match last {
-        Some(Entry::Opened { ask: last, .. }) => last.number < ask.number,
+        Some(Opening { ask: last, .. }) => last.number < ask.number,
         _ => true,
     }
 }
 
-fn is_opening(opening: Option<&Entry>) -> bool
-    ensures { result ≡ is_some (option_and_then opening_in (option_copied opening.entry)) }
+fn is_opening(opening: Option<&Opening>) -> bool
+    ensures { result ≡ is_some (option_copied opening.entry) }
 {
-    matches!(opening, Some(Entry::Opened { .. }))
+    opening.is_some()
 }
 
 /// Whether the job may be opened for this request: it has the next number, the flight has no open job and hasn't ended, the request is

@@ -1,4 +1,4 @@
--- Reading values one behind another, as a loop does.
+-- Reading values one after another, as a loop does.
 use Rattle.std.proofs.Common.{◌≡◌, ℕ, suc, ◌-◌, ◌+◌, ◌≤◌, ◌<◌, List, [], ◌∷◌, ◌++◌, Option, Some, None, refl, sym, ap, ◌∙◌, append_assoc, arith}
 use Rattle.std.proofs.lemmas.List.{append-nil}
 use Rattle.uss_codec.specs.declared.coded.Unread.{Unread}
@@ -6,7 +6,7 @@ use Rattle.uss_codec.specs.declared.coded.Unread.TheVariants.{Memory, Malformed}
 use Rattle.uss_codec.specs.Reading.{Reading, ◌>>=◌, Fails, many_at}
 
 module _ {A : Type 0} (reading : Reading A) where
-  -- what was read before, in front of what is still read
+  -- what was read before, before what is still read
   abbrev pub with_front : List A → Option (List A × List ℕ) → Option (List A × List ℕ)
   with_front front given = given >>= λ x. Some (front ++ x.0, x.1)
 

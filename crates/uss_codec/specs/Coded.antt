@@ -9,5 +9,5 @@ AreBytes bytes = (i : ℕ) → slice_index bytes i < 256
 pub record IsCoded {A : Type 0} (fits : A → Type 0) (spelling : A → List ℕ) (reading : Reading A) : Type 0 where
   -- what is read fits, and the bytes are its spelling and those that are left
   pub found : (bytes : List ℕ) (x : A) (rest : List ℕ) → AreBytes bytes → reading bytes ≡ Some (x, rest) → (bytes ≡ spelling x ++ rest) × fits x
-  -- what fits is read from its spelling, whatever stands behind it
+  -- what fits is read from its spelling, whatever stands after it
   pub again : (x : A) (rest : List ℕ) → fits x → reading (spelling x ++ rest) ≡ Some (x, rest)

@@ -49,7 +49,7 @@ refused_some false x y e = (refl, cc)
 pub same_value : {A : Type 0} (x y : A) → Some x ≡ Some y → x ≡ y
 same_value x y e = cc
 
--- ---- one value behind another, what is made of values, and values that pass a test
+-- ---- one value after another, what is made of values, and values that pass a test
 
 module _ {A B : Type 0} (fits : A → Type 0) (spelling : A → List ℕ) (reading : Reading A) (fits' : B → Type 0) (spelling' : B → List ℕ) (reading' : Reading B) where
   pub coded_both : IsCoded fits spelling reading → IsCoded fits' spelling' reading'

@@ -1,4 +1,4 @@
--- How values are read from bytes, one after another: a reading gives the value at the front and the bytes behind it, or none where
+-- How values are read from bytes, one after another: a reading gives the value at the start and the bytes after it, or none where
 -- no value stands there. This project's own.
 use Rattle.std.specs.Prelude.{◌≡◌, ℕ, zero, suc, ◌+◌, ◌*◌, ◌^◌, ℤ, Bool, List, [], ◌∷◌, length, take, drop, Option, Some, None, Result, Ok, Err, nat_lt, nat_le, if◌then◌else◌}
 use Rattle.std.specs.Int.{Width, w16, w32, w64, byte_len, from_be_bytes, cast_signed}
@@ -39,7 +39,7 @@ in_4_bytes_at bytes = number_at w32 bytes
 abbrev pub in_8_bytes_at : Reading ℕ
 in_8_bytes_at bytes = number_at w64 bytes
 
--- one value behind another
+-- one value after another
 abbrev pub both_at : {A B : Type 0} → Reading A → Reading B → Reading (A × B)
 both_at first second bytes = do
   a ← first bytes
@@ -67,7 +67,7 @@ in_16_bytes_at bytes = made_at from_halves (both_at in_8_bytes_at in_8_bytes_at)
 unfoldable pub signed_in_8_bytes_at : Reading ℤ
 signed_in_8_bytes_at bytes = made_at (λ n. cast_signed w64 n) in_8_bytes_at bytes
 
--- as many bytes as the number in front says
+-- as many bytes as the number before them says
 unfoldable pub text_at : Reading (List ℕ)
 text_at bytes = do
   n ← in_4_bytes_at bytes
@@ -89,7 +89,7 @@ many_at reading (suc n) bytes = do
   others ← many_at reading n first.1
   Some (first.0 ∷ others.0, others.1)
 
--- as many values as the number in front says, up to a limit
+-- as many values as the number before them says, up to a limit
 unfoldable pub counted_at : {A : Type 0} → ℕ → Reading ℕ → Reading A → Reading (List A)
 counted_at limit count reading bytes = do
   n ← count bytes

@@ -7,6 +7,7 @@ use Rattle.std.specs.Int.RustNames.{FitsSigned}
 use Rattle.std.proofs.lemmas.Int.{ints}
 use Rattle.std.proofs.lemmas.Bool.{and_parts, and_from, leb-true, le-leb}
 use Rattle.std.proofs.lemmas.List.Sums.{list_all-from_AllPass, AllPass-from_list_all}
+use Rattle.uss_shape.specs.Limits.{most_outline_vertices}
 use Rattle.uss_shape.specs.declared.Place.{Place}
 use Rattle.uss_shape.specs.Plane.{InPlane}
 use Rattle.uss_shape.specs.Shape.{IsOutline}
@@ -125,7 +126,7 @@ abbrev FitsRanges : ℤ × (ℤ × (ℤ × ℤ)) → Type 0
 FitsRanges p = FitsSigned w64 p.0 × (FitsSigned w64 p.1.0 × FitsTime p.1.1)
 
 abbrev FitsVertices : List Place → Type 0
-FitsVertices vs = (length vs ≤ 1000) × All FitsPlace vs
+FitsVertices vs = (length vs ≤ most_outline_vertices) × All FitsPlace vs
 
 abbrev time_of : ℤ × ℤ → List ℕ
 time_of p = signed_in_8_bytes p.0 ++ signed_in_8_bytes p.1
@@ -149,10 +150,10 @@ abbrev parts_of : List Place × (ℤ × (ℤ × (ℤ × ℤ))) → List ℕ
 parts_of p = list place p.0 ++ ranges_of p.1
 
 abbrev parts_at : Reading (List Place × (ℤ × (ℤ × (ℤ × ℤ))))
-parts_at bytes = both_at (list_at 1000 place_at) ranges_at bytes
+parts_at bytes = both_at (list_at most_outline_vertices place_at) ranges_at bytes
 
 coded_parts : IsCoded FitsParts parts_of parts_at
-coded_parts = coded_both FitsVertices (list place) (list_at 1000 place_at) FitsRanges ranges_of ranges_at (coded_list FitsPlace place place_at coded_place 1000 (omega arith)) coded_ranges
+coded_parts = coded_both FitsVertices (list place) (list_at most_outline_vertices place_at) FitsRanges ranges_of ranges_at (coded_list FitsPlace place place_at coded_place 1000 (omega arith)) coded_ranges
 
 abbrev parts : Volume4D → List Place × (ℤ × (ℤ × (ℤ × ℤ)))
 parts v = (v.outline, (v.low, (v.high, (v.start, v.end))))

@@ -1,13 +1,14 @@
 -- How places and volumes are read, and a test of what a volume is. This project's own.
 use Rattle.std.specs.Prelude.{Bool, ◌&&◌, nat_le, ℤ, int_le, List, length}
 use Rattle.std.specs.List.{list_all}
+use Rattle.uss_shape.specs.Limits.{fewest_outline_vertices, most_outline_vertices}
 use Rattle.uss_shape.specs.declared.Place.{Place}
 use Rattle.uss_vol4.specs.Volume.{Volume4D}
 use Rattle.uss_vol4.specs.Ranges.{is_in_plane, is_altitude, is_instant}
 use Rattle.uss_codec.specs.Reading.{Reading, both_at, made_at, only_at, list_at, signed_in_8_bytes_at}
 
 unfoldable pub is_outline : List Place → Bool
-is_outline vertices = nat_le 3 (length vertices) && (nat_le (length vertices) 1000 && list_all is_in_plane vertices)
+is_outline vertices = nat_le fewest_outline_vertices (length vertices) && (nat_le (length vertices) most_outline_vertices && list_all is_in_plane vertices)
 
 unfoldable pub is_volume : Volume4D → Bool
 is_volume v =
@@ -26,5 +27,5 @@ volume_with vertices low high start end = record { outline = vertices; low = low
 
 unfoldable pub volume_at : Reading Volume4D
 volume_at bytes =
-    only_at is_volume (made_at volume_of (both_at (list_at 1000 place_at)
+    only_at is_volume (made_at volume_of (both_at (list_at most_outline_vertices place_at)
     (both_at signed_in_8_bytes_at (both_at signed_in_8_bytes_at (both_at signed_in_8_bytes_at signed_in_8_bytes_at))))) bytes

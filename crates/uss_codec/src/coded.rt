@@ -10,7 +10,7 @@ use std::alloc::{AllocError, AllocFailed, Global};
 pub enum Unread {
     /// There was no memory for it.
     Memory,
-    /// No value that fits stands at the front of the bytes.
+    /// No value that fits stands at the start of the bytes.
     Malformed,
 }
 
@@ -38,15 +38,15 @@ pub trait Coded: Sized {
     /// The bytes of a value.
     ghost spelling: { Self → List ℕ };
 
-    /// The value at the front of bytes, and the bytes behind it.
+    /// The value at the start of bytes, and the bytes after it.
     ghost reading: { Reading Self };
 
-    /// Writes the value behind the bytes. Where memory is wanting a part of it may stand there.
+    /// Writes the value after the bytes. Where memory is wanting a part of it may stand there.
     fn put(&self, out: &mut Vec<u8>) -> Result<(), AllocError>
         requires { fits self.now }
         ensures { OnOk result (out.new.items ≡ out.old.items ++ spelling self.now) };
 
-    /// The value at the front, and the bytes behind it.
+    /// The value at the start, and the bytes after it.
     fn take(alloc: Global, bytes: &[u8]) -> Result<(Self, &[u8]), Unread>
         ensures { Gives (λ x. (x.0, x.1.now)) result (reading bytes.now) };
 

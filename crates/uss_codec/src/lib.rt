@@ -4,7 +4,7 @@
 //! let mut bytes = Vec::new(alloc);
 //! 7u32.put(&mut bytes)?; // b"\0\0\0\x07"
 //! name.put(&mut bytes)?;
-//! let (number, rest) = u32::take(alloc, &bytes)?; // 7, and the bytes behind it
+//! let (number, rest) = u32::take(alloc, &bytes)?; // 7, and the bytes after it
 //! let (name, rest) = Name::take(alloc, rest)?;
 //! ```
 //!

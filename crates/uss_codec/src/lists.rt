@@ -23,7 +23,7 @@ pub fn put_option<T: Coded>(value: &Option<T>, out: &mut Vec<u8>) -> Result<(), 
     }
 }
 
-/// A value that may be there, and the bytes behind it.
+/// A value that may be there, and the bytes after it.
 #[tactic(auto, unfolding(crate::specs::Reading::optional_at))]
 pub fn take_option<T: Coded>(alloc: Global, bytes: &[u8]) -> Result<(Option<T>, &[u8]), Unread>
     ensures { Gives (λ x. (x.0, x.1.now)) result (optional_at T.reading bytes.now) }
@@ -38,7 +38,7 @@ pub fn take_option<T: Coded>(alloc: Global, bytes: &[u8]) -> Result<(Option<T>, 
     }
 }
 
-/// Writes the items one behind another.
+/// Writes the items one after another.
 fn put_all<T: Coded>(items: &[T], out: &mut Vec<u8>) -> Result<(), AllocError>
     requires { All T.fits items.now }
     ensures { OnOk result (out.new.items ≡ out.old.items ++ flat_map T.spelling items.now) }
@@ -49,7 +49,7 @@ fn put_all<T: Coded>(items: &[T], out: &mut Vec<u8>) -> Result<(), AllocError>
     Ok(())
 }
 
-/// So many values, and the bytes behind them.
+/// So many values, and the bytes after them.
 fn take_many<T: Coded + Drop>(
     alloc: Global,
     count: u32,
@@ -77,7 +77,7 @@ pub fn put_list<T: Coded>(items: &[T], out: &mut Vec<u8>) -> Result<(), AllocErr
     put_all(items, out)
 }
 
-/// A list of at most so many items, whose number has 4 bytes, and the bytes behind it.
+/// A list of at most so many items, whose number has 4 bytes, and the bytes after it.
 #[tactic(auto, unfolding(crate::specs::Reading::counted_at))]
 pub fn take_list<T: Coded + Drop>(
     alloc: Global,
@@ -103,7 +103,7 @@ pub fn put_short_list<T: Coded>(items: &[T], out: &mut Vec<u8>) -> Result<(), Al
     put_all(items, out)
 }
 
-/// A list whose number of items has one byte, and the bytes behind it.
+/// A list whose number of items has one byte, and the bytes after it.
 #[tactic(auto, unfolding(crate::specs::Reading::counted_at))]
 pub fn take_short_list<T: Coded + Drop>(
     alloc: Global,

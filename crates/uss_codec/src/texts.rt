@@ -10,7 +10,7 @@ use crate::{Coded, Unread};
 use std::alloc::{AllocError, Global};
 use uss_intent::{Base, FlightId, IntentRefusal, Name, Ovn, TicketId};
 
-/// Writes a text behind the bytes: its length and its bytes.
+/// Writes a text after the bytes: its length and its bytes.
 fn put_text(content: &[u8], out: &mut Vec<u8>) -> Result<(), AllocError>
     requires { length content.now < 2 ^ 32 }
     ensures { OnOk result (out.new.items ≡ out.old.items ++ text content.now) }
@@ -19,7 +19,7 @@ fn put_text(content: &[u8], out: &mut Vec<u8>) -> Result<(), AllocError>
     out.extend_from_slice(content)
 }
 
-/// The text at the front, and the bytes behind it.
+/// The text at the start, and the bytes after it.
 #[tactic(auto, unfolding(crate::specs::Reading::text_at))]
 fn take_text(alloc: Global, bytes: &[u8]) -> Result<(&[u8], &[u8]), Unread>
     ensures { Gives (λ x. (x.0.now, x.1.now)) result (text_at bytes.now) }

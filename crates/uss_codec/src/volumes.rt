@@ -10,7 +10,7 @@ ghost use Rattle.uss_codec.specs.VolumeLaws.{FitsPlace, coded_place, coded_volum
 use crate::lists::{put_list, take_list};
 use crate::{Coded, Unread};
 use std::alloc::{AllocError, Global};
-use uss_shape::{Outline, Place};
+use uss_shape::{MOST_OUTLINE_VERTICES, Outline, Place};
 use uss_vol4::Volume4;
 
 impl Coded for Place {
@@ -67,7 +67,7 @@ impl Coded for Volume4 {
 
     #[tactic(auto, unfolding(crate::specs::Volumes::volume_at))]
     fn take(alloc: Global, bytes: &[u8]) -> Result<(Volume4, &[u8]), Unread> {
-        let (vertices, rest) = take_list::<Place>(alloc, 1000, bytes)?;
+        let (vertices, rest) = take_list::<Place>(alloc, MOST_OUTLINE_VERTICES as u32, bytes)?;
         let (low, rest) = i64::take(alloc, rest)?;
         let (high, rest) = i64::take(alloc, rest)?;
         let (start, rest) = i64::take(alloc, rest)?;

@@ -20,7 +20,7 @@ pub record Torn (at n : ℕ) (old new : List ℕ) : Type 0 where
   pub no_shorter : length old ≤ length new
   pub no_longer : length new ≤ max (length old) (at + n)
 
--- what a file may be after a cut to n bytes that a crash cut short, or that was refused: a front of the old one
+-- what a file may be after a cut to n bytes that a crash cut short, or that was refused: a prefix of the old one
 -- of some length between
 pub record Shortened (n : ℕ) (old new : List ℕ) : Type 0 where
   pub no_shorter : min n (length old) ≤ length new

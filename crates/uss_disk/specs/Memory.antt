@@ -80,7 +80,7 @@ pub record Counted (old new : ℕ) : Type 0 where
 abbrev pub next_call : MemoryView → ℕ
 next_call disk = length disk.calls + 1
 
--- A call that was refused for want of memory: a fault is counted, and nothing else changes.
+-- A call that was refused for out of memory: a fault is counted, and nothing else changes.
 pub record HadNoRoom (old new : MemoryView) : Type 0 where
   pub first : new.first ≡ old.first
   pub calls : new.calls ≡ old.calls

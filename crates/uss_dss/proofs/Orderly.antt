@@ -15,7 +15,7 @@ use Rattle.uss_law_dss.specs.Service.{Service, ticket_of, recorded_of}
 use Rattle.uss_law_dss.specs.Refusals.{refusal_of, tests_of, is_at_last_version}
 use Rattle.uss_law_dss.specs.Step.{accepted, service_step, unless_refused, after_ticket_remove, after_remove, with_ticket, with_recorded, after_put, landed, landing_of, old_extents, subscribers, put_recorded, without_flight}
 use Rattle.uss_dss.specs.Effects.{with_indices}
-use Rattle.uss_dss.proofs.Places.{raised_by_told}
+use Rattle.uss_dss.proofs.Places.{raised_by_notified}
 use Rattle.uss_law_dss.proofs.EachEffect.{none_holds}
 use Rattle.uss_law_dss.proofs.Tests.{other_number, neither}
 use Rattle.uss_law_dss.specs.Orderly.{IsOrderly}
@@ -46,11 +46,11 @@ removed v s client flight ovn r e j h f =
     subst (λ (o : Option Recorded). IsOrderly (with_recorded s o (λ x. after_remove s client x)).1) (sym f) k
 
 -- the state and the reply that a removal makes are the definition's
-pub removed_is : (v s : Service) (client : List ℕ) (r : Recorded) (reply : Reference) (told : List Subscriber) → v ≡ s → IsOrderly s → reply ≡ r.reference
-    → told ≡ subscribers client r.extents s.tickets
-    → (Removed reply told, record v { references = without_flight reply.flight v.references; tickets = with_indices told v.tickets; retired_flights = v.retired_flights ++ reply.flight ∷ [] }) ≡ after_remove s client r
-removed_is v s client r reply told e j g u =
-    let q = raised_by_told client r.extents s.tickets j.tickets_ascend in
+pub removed_is : (v s : Service) (client : List ℕ) (r : Recorded) (reply : Reference) (notified : List Subscriber) → v ≡ s → IsOrderly s → reply ≡ r.reference
+    → notified ≡ subscribers client r.extents s.tickets
+    → (Removed reply notified, record v { references = without_flight reply.flight v.references; tickets = with_indices notified v.tickets; retired_flights = v.retired_flights ++ reply.flight ∷ [] }) ≡ after_remove s client r
+removed_is v s client r reply notified e j g u =
+    let q = raised_by_notified client r.extents s.tickets j.tickets_ascend in
     (λ i. (Removed (g i) (u i), record (e i) { references = without_flight (g i).flight (e i).references; tickets = with_indices (u i) (e i).tickets; retired_flights = (e i).retired_flights ++ (g i).flight ∷ [] }))
     ∙ (λ i. (Removed r.reference (subscribers client r.extents s.tickets), record s { references = without_flight r.reference.flight s.references; tickets = q i; retired_flights = s.retired_flights ++ r.reference.flight ∷ [] }))
 
@@ -60,14 +60,14 @@ removed_done s client flight r out f o = o ∙ (λ i. with_recorded s (f i) (λ 
 
 -- those that a Put makes are the definition's
 pub landed_is : (v s : Service) (client : List ℕ) (flight : ℕ) (ovn : Option (List ℕ)) (extents : List Volume4D) (state : State) (base : List ℕ) (ticket : ℕ)
-    (new : Recorded) (l : Landing) (reply : Reference) (told : List Subscriber)
+    (new : Recorded) (l : Landing) (reply : Reference) (notified : List Subscriber)
     → v ≡ s → IsOrderly s → new ≡ landed s client flight extents state base ticket → l ≡ landing_of s client flight ovn base ticket → reply ≡ new.reference
-    → told ≡ subscribers client (old_extents (recorded_of flight s) ++ extents) s.tickets
-    → (Landed reply told, record v { references = put_recorded new v.references; tickets = with_indices told v.tickets; landings = v.landings ++ l ∷ [] })
+    → notified ≡ subscribers client (old_extents (recorded_of flight s) ++ extents) s.tickets
+    → (Landed reply notified, record v { references = put_recorded new v.references; tickets = with_indices notified v.tickets; landings = v.landings ++ l ∷ [] })
     ≡ after_put s client flight ovn extents state base ticket
-landed_is v s client flight ovn extents state base ticket new l reply told e j n p r u =
+landed_is v s client flight ovn extents state base ticket new l reply notified e j n p r u =
     let touched = old_extents (recorded_of flight s) ++ extents in
-    let q = raised_by_told client touched s.tickets j.tickets_ascend in
+    let q = raised_by_notified client touched s.tickets j.tickets_ascend in
     let g = r ∙ ap (λ (x : Recorded). x.reference) n in
     (λ i. (Landed (g i) (u i), record (e i) { references = put_recorded (n i) (e i).references; tickets = with_indices (u i) (e i).tickets; landings = (e i).landings ++ (p i) ∷ [] }))
     ∙ (λ i. (Landed (landed s client flight extents state base ticket).reference (subscribers client touched s.tickets), record s { references = put_recorded (landed s client flight extents state base ticket) s.references; tickets = q i; landings = s.landings ++ (landing_of s client flight ovn base ticket) ∷ [] }))

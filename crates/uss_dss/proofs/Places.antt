@@ -5,10 +5,10 @@ use Rattle.uss_intent.specs.declared.records.Subscriber.{Subscriber}
 use Rattle.uss_intent.specs.declared.records.Ticket.{Ticket}
 use Rattle.uss_law_dss.specs.Lists.{Has}
 use Rattle.uss_law_dss.specs.Orderly.{AllAbove, Ascend, id_of}
-use Rattle.uss_law_dss.specs.Told.{ticket_named}
+use Rattle.uss_law_dss.specs.Notified.{ticket_named}
 use Rattle.uss_vol4.specs.Volume.{Volume4D}
 use Rattle.uss_law_dss.specs.Service.{digits}
-use Rattle.uss_law_dss.specs.Step.{is_told, raised, subscribers}
+use Rattle.uss_law_dss.specs.Step.{is_notified, raised, subscribers}
 use Rattle.uss_dss.specs.Effects.{with_index, with_indices}
 
 -- an item at a place is among the list
@@ -27,8 +27,8 @@ item_has_by f [] i d h = absurd (omega (arith, h))
 item_has_by f (x ∷ xs) zero d h = inl refl
 item_has_by f (x ∷ xs) (suc i) d h = inr (item_has_by f xs i d (omega arith))
 
--- where each of those that are told has a greater ticket, the first ticket stays
-passed : (n : ℕ) (t : Ticket) (told : List Subscriber) (ts : List Ticket) → t.id ≡ n → AllAbove ticket_named n told → with_indices told (t ∷ ts) ≡ t ∷ with_indices told ts
+-- where each of those that are notified has a greater ticket, the first ticket stays
+passed : (n : ℕ) (t : Ticket) (notified : List Subscriber) (ts : List Ticket) → t.id ≡ n → AllAbove ticket_named n notified → with_indices notified (t ∷ ts) ≡ t ∷ with_indices notified ts
 passed n t [] ts h above = refl
 passed n t (s ∷ ss) ts h above =
     let other : (t.id == s.ticket) ≡ false = (let less : n < s.ticket = above.0 in grind (arith, nat_tests)) in
@@ -38,18 +38,18 @@ passed n t (s ∷ ss) ts h above =
     one true e = absurd (cc)
     one false e = refl
 
-named_above_at : (n : ℕ) (client : List ℕ) (extents : List Volume4D) (t : Ticket) (ts : List Ticket) (b : Bool) → is_told client extents t ≡ b → n < t.id → AllAbove ticket_named n (subscribers client extents ts) → AllAbove ticket_named n (subscribers client extents (t ∷ ts))
+named_above_at : (n : ℕ) (client : List ℕ) (extents : List Volume4D) (t : Ticket) (ts : List Ticket) (b : Bool) → is_notified client extents t ≡ b → n < t.id → AllAbove ticket_named n (subscribers client extents ts) → AllAbove ticket_named n (subscribers client extents (t ∷ ts))
 named_above_at n client extents t ts true is less rest = rw is (less, rest)
 named_above_at n client extents t ts false is less rest = rw is rest
 
 named_above : (n : ℕ) (client : List ℕ) (extents : List Volume4D) (ts : List Ticket) → AllAbove id_of n ts → AllAbove ticket_named n (subscribers client extents ts)
 named_above n client extents [] above = tt
-named_above n client extents (t ∷ ts) above = named_above_at n client extents t ts (is_told client extents t) refl above.0 (named_above n client extents ts above.1)
+named_above n client extents (t ∷ ts) above = named_above_at n client extents t ts (is_notified client extents t) refl above.0 (named_above n client extents ts above.1)
 
 own_index : (n : ℕ) (t : Ticket) (ts : List Ticket) → with_index t.id n (t ∷ ts) ≡ record t { index = n } ∷ ts
 own_index n t ts = let itself : (t.id == t.id) ≡ true = grind (arith, nat_tests) in rw itself refl
 
-raised_at : (client : List ℕ) (extents : List Volume4D) (t : Ticket) (ts : List Ticket) (b : Bool) → is_told client extents t ≡ b → AllAbove id_of t.id ts
+raised_at : (client : List ℕ) (extents : List Volume4D) (t : Ticket) (ts : List Ticket) (b : Bool) → is_notified client extents t ≡ b → AllAbove id_of t.id ts
     → with_indices (subscribers client extents ts) ts ≡ raised client extents ts → with_indices (subscribers client extents (t ∷ ts)) (t ∷ ts) ≡ raised client extents (t ∷ ts)
 raised_at client extents t ts true is above rest =
     let others = named_above t.id client extents ts above in
@@ -59,7 +59,7 @@ raised_at client extents t ts false is above rest =
     let others = named_above t.id client extents ts above in
     rw is (passed t.id t (subscribers client extents ts) ts refl others ∙ ap (λ us. t ∷ us) rest)
 
--- the tickets with the indices of those that are told are the raised tickets
-pub raised_by_told : (client : List ℕ) (extents : List Volume4D) (ts : List Ticket) → Ascend id_of ts → with_indices (subscribers client extents ts) ts ≡ raised client extents ts
-raised_by_told client extents [] up = refl
-raised_by_told client extents (t ∷ ts) up = raised_at client extents t ts (is_told client extents t) refl up.0 (raised_by_told client extents ts up.1)
+-- the tickets with the indices of those that are notified are the raised tickets
+pub raised_by_notified : (client : List ℕ) (extents : List Volume4D) (ts : List Ticket) → Ascend id_of ts → with_indices (subscribers client extents ts) ts ≡ raised client extents ts
+raised_by_notified client extents [] up = refl
+raised_by_notified client extents (t ∷ ts) up = raised_at client extents t ts (is_notified client extents t) refl up.0 (raised_by_notified client extents ts up.1)

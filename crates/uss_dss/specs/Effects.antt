@@ -16,4 +16,4 @@ with_index id n (t ∷ ts) = if t.id == id then record t { index = n } ∷ ts el
 
 -- the tickets with the indices that these subscribers have
 abbrev pub with_indices : List Subscriber → List Ticket → List Ticket
-with_indices told ts = fold (λ us s. with_index s.ticket s.index us) ts told
+with_indices notified ts = fold (λ us s. with_index s.ticket s.index us) ts notified

@@ -107,13 +107,13 @@ impl Dss {
             return Ok(DssReply::Refused(DssRefusal::Absent));
         };
         let reply = r.reference.clone()?;
-        let told = self.told_of_end(client, &r.extents)?;
+        let notified = self.notified_of_end(client, &r.extents)?;
         self.retired_flights.push(reply.flight.number())?;
         self.references.remove(reply.flight);
-        self.tickets.set_indices(&told);
+        self.tickets.set_indices(&notified);
         Ok(DssReply::Removed {
             reference: reply,
-            subscribers: Owed::from_vec(told),
+            subscribers: Owed::from_vec(notified),
         })
     }
 

@@ -4,7 +4,7 @@ ghost use Rattle.std.specs.Prelude.{◌≡◌, ◌+◌, ◌<◌, ◌^◌, ◌++�
 ghost use Rattle.uss_intent.specs.declared.records.Landing.{Landing};
 ghost use Rattle.uss_law_dss.specs.Service.{reach, digits, ovn_of};
 ghost use Rattle.uss_law_dss.specs.Refusals.{shown_all};
-ghost use Rattle.uss_law_dss.specs.Step.{is_told, subscribers, put_recorded, found_in};
+ghost use Rattle.uss_law_dss.specs.Step.{is_notified, subscribers, put_recorded, found_in};
 ghost use Rattle.uss_dss.specs.Effects.{CanRise};
 
 use crate::records::Records;
@@ -38,9 +38,9 @@ pub(crate) fn found(
     Ok(found)
 }
 
-/// Whether the ticket's manager is told of a change from the old extents to the new ones.
-fn is_told(client: &Name, old: &[Volume4], new: &[Volume4], ticket: &Ticket) -> bool
-    ensures { result ≡ is_told client.now (old.now ++ new.now) ticket.now }
+/// Whether the ticket's manager is notified of a change from the old extents to the new ones.
+fn is_notified(client: &Name, old: &[Volume4], new: &[Volume4], ticket: &Ticket) -> bool
+    ensures { result ≡ is_notified client.now (old.now ++ new.now) ticket.now }
 {
     ticket.manager != *client && (reaches(old, &ticket.area) || reaches(new, &ticket.area))
 }
@@ -56,8 +56,8 @@ fn subscriber(ticket: &Ticket) -> Result<Subscriber, AllocError>
     })
 }
 
-/// Who of these tickets' managers is told of a change from the old extents to the new ones.
-pub(crate) fn told(
+/// Who of these tickets' managers is notified of a change from the old extents to the new ones.
+pub(crate) fn notified(
     alloc: Global,
     client: &Name,
     old: &[Volume4],
@@ -65,15 +65,15 @@ pub(crate) fn told(
     tickets: &[&Ticket],
 ) -> Result<Vec<Subscriber>, AllocError>
     requires { CanRise (map (λ t. t.now) tickets.now) }
-    ensures { IfOk result (λ told. told.items ≡ subscribers client.now (old.now ++ new.now) (map (λ t. t.now) tickets.now)) }
+    ensures { IfOk result (λ notified. notified.items ≡ subscribers client.now (old.now ++ new.now) (map (λ t. t.now) tickets.now)) }
 {
-    let mut told = Vec::new(alloc);
+    let mut notified = Vec::new(alloc);
     for t in tickets {
-        if is_told(client, old, new, t) {
-            told.push(subscriber(t)?)?;
+        if is_notified(client, old, new, t) {
+            notified.push(subscriber(t)?)?;
         }
     }
-    Ok(told)
+    Ok(notified)
 }
 
 fn take_back(landings: &mut Landings)
@@ -82,7 +82,7 @@ fn take_back(landings: &mut Landings)
     let _ = landings.pop();
 }
 
-/// Records a landing: the reference in its place, and its place in the history. Want of memory changes nothing.
+/// Records a landing: the reference in its place, and its place in the history. Running out of memory changes nothing.
 pub(crate) fn record(
     references: &mut Records,
     landings: &mut Landings,

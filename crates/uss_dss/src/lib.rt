@@ -130,7 +130,7 @@ impl Dss {
         self.judge(client, ask)
     }
 
-    /// Answers a client's call. Want of memory leaves the service as it was, and so does a refusal.
+    /// Answers a client's call. Running out of memory leaves the service as it was, and so does a refusal.
     pub fn step(&mut self, client: &Name, ask: &DssAsk) -> Result<DssReply, AllocError>
         ensures reply { IfOk result (λ reply. reply ≡ (service_step self.old client.now ask.now).0) }
         ensures state { OnOk result (self.new ≡ (service_step self.old client.now ask.now).1) }

@@ -9,7 +9,7 @@ ghost use Rattle.uss_law_dss.specs.Step.{after_put, landed, landing_of, next_ver
 ghost use Rattle.uss_intent.specs.Limits.{last_version};
 
 use crate::Dss;
-use crate::changes::{ovn_of, record, told};
+use crate::changes::{notified, ovn_of, record};
 use std::alloc::AllocError;
 use uss_intent::{
     Base, DssReply, FlightId, Landing, Name, Ovn, Owed, Recorded, Reference, State, Subscriber,
@@ -107,29 +107,29 @@ impl Dss {
         }
     }
 
-    fn told_of_change(
+    fn notified_of_change(
         &self,
         client: &Name,
         flight: FlightId,
         extents: &Volumes,
     ) -> Result<Vec<Subscriber>, AllocError>
-        ensures { IfOk result (λ told. told.items ≡ subscribers client.now (old_extents (recorded_of flight self.now) ++ extents.now) self.now.tickets) }
+        ensures { IfOk result (λ notified. notified.items ≡ subscribers client.now (old_extents (recorded_of flight self.now) ++ extents.now) self.now.tickets) }
     {
         let old = self.old_extents(flight);
         let all = self.tickets.all(self.alloc)?;
-        told(self.alloc, client, old, extents.as_slice(), &all)
+        notified(self.alloc, client, old, extents.as_slice(), &all)
     }
 
-    /// Who is told of the end of a reference with these extents.
-    pub(crate) fn told_of_end(
+    /// Who is notified of the end of a reference with these extents.
+    pub(crate) fn notified_of_end(
         &self,
         client: &Name,
         extents: &Volumes,
     ) -> Result<Vec<Subscriber>, AllocError>
-        ensures { IfOk result (λ told. told.items ≡ subscribers client.now extents.now self.now.tickets) }
+        ensures { IfOk result (λ notified. notified.items ≡ subscribers client.now extents.now self.now.tickets) }
     {
         let all = self.tickets.all(self.alloc)?;
-        told(self.alloc, client, &[], extents.as_slice(), &all)
+        notified(self.alloc, client, &[], extents.as_slice(), &all)
     }
 
     /// Records the landing. The caller has found that the Put isn't refused.
@@ -151,13 +151,13 @@ impl Dss {
     {
         let recorded = self.landed(client, flight, extents, state, base, ticket)?;
         let landing = self.landing(client, flight, ovn, base, ticket)?;
-        let told = self.told_of_change(client, flight, extents)?;
+        let notified = self.notified_of_change(client, flight, extents)?;
         let reply = recorded.reference.clone()?;
         record(&mut self.references, &mut self.landings, recorded, landing)?;
-        self.tickets.set_indices(&told);
+        self.tickets.set_indices(&notified);
         Ok(DssReply::Landed {
             reference: reply,
-            subscribers: Owed::from_vec(told),
+            subscribers: Owed::from_vec(notified),
         })
     }
 }

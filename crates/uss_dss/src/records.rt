@@ -82,7 +82,7 @@ impl Records {
             .any(|r| r.reference.ticket == ticket)
     }
 
-    /// Puts the reference into its place by flight, or into the place of the one of its flight, which needs no memory. Want of memory
+    /// Puts the reference into its place by flight, or into the place of the one of its flight, which needs no memory. Running out of memory
     /// changes nothing.
     pub(crate) fn put(&mut self, new: Recorded) -> Result<(), AllocError>
         ensures ok { OnOk result (self.new ≡ put_recorded new self.old) }

@@ -47,7 +47,7 @@ impl Retired {
         self.known.contains(&id)
     }
 
-    /// One identifier more. Want of memory changes nothing.
+    /// One identifier more. Running out of memory changes nothing.
     pub(crate) fn push(&mut self, id: u128) -> Result<(), AllocError>
         ensures ok { OnOk result (self.new ≡ self.old ++ id ∷ []) }
         ensures err { OnErr result (self.new ≡ self.old) }

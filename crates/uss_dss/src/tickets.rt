@@ -60,7 +60,7 @@ impl Tickets {
         self.by_id.values().collect(alloc)
     }
 
-    /// Puts a new ticket into its place by identifier. Want of memory changes nothing.
+    /// Puts a new ticket into its place by identifier. Running out of memory changes nothing.
     pub(crate) fn put(&mut self, new: Ticket) -> Result<(), AllocError>
         requires { find (λ t. t.id == new.id) self.old ≡ None }
         ensures ok { OnOk result (self.new ≡ put_ticket new self.old) }
@@ -90,11 +90,11 @@ impl Tickets {
         }
     }
 
-    /// Gives the tickets of those that are told their new indices. Takes no memory.
-    pub(crate) fn set_indices(&mut self, told: &[Subscriber])
-        ensures { self.new ≡ with_indices told.now self.old }
+    /// Gives the tickets of those that are notified their new indices. Takes no memory.
+    pub(crate) fn set_indices(&mut self, notified: &[Subscriber])
+        ensures { self.new ≡ with_indices notified.now self.old }
     {
-        for s in told {
+        for s in notified {
             self.set_index(s.ticket, s.index);
         }
     }

@@ -10,6 +10,6 @@ use Rattle.uss_event.specs.declared.calls.PeerReply.TheVariants as Peers
 abbrev pub peer_fits : PeerCall → PeerReply → Bool
 peer_fits (Calls.Details job flight manager base) (Peers.Served pair) = (pair.reference.flight == flight) && same_text pair.reference.manager manager
 peer_fits (Calls.Details job flight manager base) Peers.Gone = true
-peer_fits (Calls.Notify job place base note) Peers.Noted = true
+peer_fits (Calls.Notify job index base note) Peers.Noted = true
 peer_fits _ (Peers.Status status) = true
 peer_fits _ _ = false

@@ -7,6 +7,7 @@ use Rattle.uss_vol4.specs.Volume.{Volume4D}
 use Rattle.uss_intent.specs.Limits.{most_extents, most_vertices}
 use Rattle.uss_intent.specs.declared.records.State.{State}
 use Rattle.uss_intent.specs.declared.records.State.TheVariants.{Accepted, Activated, Nonconforming, Contingent}
+use Rattle.uss_event.specs.Rules.{greatest_priority}
 use Rattle.uss_event.specs.declared.details.Details.{Details}
 
 -- how many vertices the volumes have together
@@ -25,7 +26,7 @@ may_be_off_nominal Contingent = true
 unfoldable pub is_plan : State → List Volume4D → List Volume4D → ℕ → Bool
 is_plan state volumes off_nominal priority =
     nat_le (length volumes + length off_nominal) most_extents && (nat_le (vertex_count volumes + vertex_count off_nominal) most_vertices
-    && ((may_be_off_nominal state || nat_le (length off_nominal) 0) && (nat_lt 0 (length volumes + length off_nominal) && nat_le priority 1000)))
+    && ((may_be_off_nominal state || nat_le (length off_nominal) 0) && (nat_lt 0 (length volumes + length off_nominal) && nat_le priority greatest_priority)))
 
 -- the extents of an intent: its volumes followed by its off-nominal volumes
 abbrev pub extents_of : Details → List Volume4D

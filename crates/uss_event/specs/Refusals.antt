@@ -7,17 +7,17 @@ use Rattle.uss_event.specs.declared.details.Details.{Details}
 use Rattle.uss_event.specs.Plans.{vertex_count, may_be_off_nominal}
 use Rattle.uss_event.specs.Rules.{is_too_great}
 use Rattle.uss_event.specs.declared.refusals.DetailsRefusal.{DetailsRefusal}
-use Rattle.uss_event.specs.declared.refusals.DetailsRefusal.TheVariants.{TooManyVolumes, TooManyVertices, OffNominalNotAllowed, NoVolume, PriorityRange, Memory}
+use Rattle.uss_event.specs.declared.refusals.DetailsRefusal.TheVariants.{TooManyVolumes, TooManyVerticesTogether, OffNominalNotAllowed, NoVolume, PriorityRange, Memory}
 
 abbrev pub number_of : DetailsRefusal → Option ℕ
 number_of TooManyVolumes = Some 121
-number_of TooManyVertices = Some 122
+number_of TooManyVerticesTogether = Some 122
 number_of OffNominalNotAllowed = Some 123
 number_of NoVolume = Some 124
 number_of PriorityRange = Some 125
 number_of Memory = None
 
--- a table of rules is refused for a priority, or for want of memory
+-- a table of rules is refused for a priority, or as out of memory
 abbrev pub IsPriorityRefusal : DetailsRefusal → Type 0
 IsPriorityRefusal refusal = (refusal ≡ PriorityRange) ⊎ (refusal ≡ Memory)
 
@@ -25,7 +25,7 @@ IsPriorityRefusal refusal = (refusal ≡ PriorityRange) ⊎ (refusal ≡ Memory)
 unfoldable pub refusal_of : State → List Volume4D → List Volume4D → ℕ → Option DetailsRefusal
 refusal_of state volumes off_nominal priority =
     if nat_lt most_extents (length volumes + length off_nominal) then Some TooManyVolumes
-    else if nat_lt most_vertices (vertex_count volumes + vertex_count off_nominal) then Some TooManyVertices
+    else if nat_lt most_vertices (vertex_count volumes + vertex_count off_nominal) then Some TooManyVerticesTogether
     else if not (may_be_off_nominal state) && nat_lt 0 (length off_nominal) then Some OffNominalNotAllowed
     else if length volumes + length off_nominal == 0 then Some NoVolume
     else if is_too_great priority then Some PriorityRange

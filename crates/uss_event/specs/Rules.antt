@@ -13,13 +13,17 @@ abbrev pub ascend : List ℕ → Bool
 ascend [] = true
 ascend (n ∷ ns) = is_below n ns && ascend ns
 
+-- the greatest priority
+abbrev pub greatest_priority : ℕ
+greatest_priority = 1000
+
 -- the priority is beyond the limit
 abbrev pub is_too_great : ℕ → Bool
-is_too_great priority = nat_lt 1000 priority
+is_too_great priority = nat_lt greatest_priority priority
 
 -- each is within the limit
 abbrev pub are_in_range : List ℕ → Bool
-are_in_range list = list_all (λ p. nat_le p 1000) list
+are_in_range list = list_all (λ p. nat_le p greatest_priority) list
 
 -- a table of rules: priorities from 0 to 1000, ascending, each once
 abbrev pub is_table : List ℕ → Bool

@@ -7,9 +7,9 @@ pub struct Note {
     pub flight: FlightId,
     /// The intent as it is held now, and none where the flight has ended.
     pub pair: Option<Pair>,
-    /// The subscription by which the other is told.
+    /// The subscription by which the other is notified.
     pub ticket: TicketId,
-    /// How often that subscription was told of a change.
+    /// How often that subscription was notified of a change.
     pub index: u64,
 }
 
@@ -34,8 +34,8 @@ pub enum PeerCall {
     /// Tells a subscriber of a change.
     Notify {
         job: u64,
-        /// The subscriber's place among those that the job owes, from 0.
-        place: u32,
+        /// The subscriber's index among those that the job owes, from 0.
+        index: u32,
         /// The subscriber's base URL.
         base: Base,
         note: Note,

@@ -33,11 +33,13 @@ mod verdicts;
 pub use asks::{AskField, AskRefusal, Conform, FlightAsk, PositionAsk, Wish};
 pub use calls::{DssCall, Note, Outgoing, PeerCall, PeerReply, Sends};
 pub use details::{Candidate, Details, Proposal, Proposals};
-pub use entries::{Attempt, Ending, Entries, Entry, FlightIds, Owner, Tags};
+pub use entries::{
+    Closing, Ending, Entries, Entry, FlightIds, Holding, Opening, Owner, Sending, Tags, Trial,
+};
 pub use events::{Answer, Event, Said};
 pub use pairs::{Pair, Pairs, refusal_of};
 pub use refusals::DetailsRefusal;
-pub use rules::{RuleTable, Verdict};
+pub use rules::{GREATEST_PRIORITY, RuleTable, Verdict};
 pub use steps::{Message, Party, Step, Stopped, WorldSteps};
 pub use transitions::may_go;
 pub use verdicts::{verdict, verdict_of};

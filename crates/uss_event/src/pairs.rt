@@ -7,7 +7,7 @@ ghost use Rattle.uss_event.specs.Pairs.{is_pair, pair_from};
 ghost use Rattle.uss_event.specs.Refusals.{refusal_of};
 ghost use Rattle.uss_intent.specs.Limits.{most_extents};
 
-use crate::{Details, DetailsRefusal};
+use crate::{Details, DetailsRefusal, GREATEST_PRIORITY};
 use std::alloc::AllocError;
 use std::marker::Model;
 use uss_intent::{MOST_EXTENTS, MOST_VERTICES, Reference, Sequence, State};
@@ -98,7 +98,7 @@ fn is_plan(state: State, details: &Details) -> bool
         && vertex_count(volumes) + vertex_count(off_nominal) <= MOST_VERTICES
         && (may_be_off_nominal(state) || off_nominal.is_empty())
         && are_some(volumes, off_nominal)
-        && details.priority <= 1000
+        && details.priority <= GREATEST_PRIORITY
 }
 
 /// The first reason why these are no details of an intent in this state: none exactly where they are. Takes no memory.
@@ -116,7 +116,7 @@ pub fn refusal_of(
         return Some(DetailsRefusal::TooManyVolumes);
     }
     if vertex_count(volumes) + vertex_count(off_nominal) > MOST_VERTICES {
-        return Some(DetailsRefusal::TooManyVertices);
+        return Some(DetailsRefusal::TooManyVerticesTogether);
     }
     if !may_be_off_nominal(state) && !off_nominal.is_empty() {
         return Some(DetailsRefusal::OffNominalNotAllowed);
@@ -124,7 +124,7 @@ pub fn refusal_of(
     if !are_some(volumes, off_nominal) {
         return Some(DetailsRefusal::NoVolume);
     }
-    if priority > 1000 {
+    if priority > GREATEST_PRIORITY {
         return Some(DetailsRefusal::PriorityRange);
     }
     None

@@ -8,7 +8,7 @@ pub enum DetailsRefusal {
     /// 121: there are more than 64 volumes, the off-nominal ones among them.
     TooManyVolumes,
     /// 122: the volumes have more than 10,000 vertices together.
-    TooManyVertices,
+    TooManyVerticesTogether,
     /// 123: in this state an intent has no off-nominal volumes.
     OffNominalNotAllowed,
     /// 124: there is no volume.
@@ -23,13 +23,13 @@ impl DetailsRefusal {
     ghost use Rattle.std.specs.Prelude.{◌≡◌};
     ghost use Rattle.uss_event.specs.Refusals.{number_of};
 
-    /// The number under which the refusal is printed: 121 to 125, none for want of memory.
+    /// The number under which the refusal is printed: 121 to 125, none for out of memory.
     pub fn number(&self) -> Option<u16>
         ensures { result ≡ number_of self.now }
     {
         match self {
             DetailsRefusal::TooManyVolumes => Some(121),
-            DetailsRefusal::TooManyVertices => Some(122),
+            DetailsRefusal::TooManyVerticesTogether => Some(122),
             DetailsRefusal::OffNominalNotAllowed => Some(123),
             DetailsRefusal::NoVolume => Some(124),
             DetailsRefusal::PriorityRange => Some(125),

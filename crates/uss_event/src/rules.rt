@@ -7,6 +7,9 @@ use crate::DetailsRefusal;
 use std::alloc::{AllocError, Global};
 use std::marker::Model;
 
+/// The greatest priority. This project's own.
+pub const GREATEST_PRIORITY: u16 = 1000;
+
 /// What comes of holding a candidate against a pair.
 #[derive(Clone, Copy, Debug, PartialEq, Eq)]
 pub enum Verdict {
@@ -62,7 +65,7 @@ fn ascend(numbers: &[u16]) -> bool
 fn are_in_range(priorities: &[u16]) -> bool
     ensures { result ≡ are_in_range priorities.now }
 {
-    priorities.iter().all(|p| *p <= 1000)
+    priorities.iter().all(|p| *p <= GREATEST_PRIORITY)
 }
 
 fn is_table(priorities: &[u16]) -> bool
@@ -74,7 +77,7 @@ fn is_table(priorities: &[u16]) -> bool
 fn is_any_too_great(list: &[u16]) -> bool
     ensures { result ≡ list_any is_too_great list.now }
 {
-    list.iter().any(|p| *p > 1000)
+    list.iter().any(|p| *p > GREATEST_PRIORITY)
 }
 
 /// The priorities, ascending and each once.

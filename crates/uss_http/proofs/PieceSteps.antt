@@ -5,11 +5,11 @@ use Rattle.std.proofs.Math.Seq.{take-append-add}
 use Rattle.std.specs.Prelude.{Result, OnErr, Ok, Err}
 use Rattle.uss_link.specs.Bytes.{TookFront}
 
--- a front of the first of two texts is a front of both
+-- a prefix of the first of two texts is a prefix of both
 pub front_of_first : (taken : List ℕ) (after : Option (List ℕ)) (a b : List ℕ) → TookFront taken after a → TookFront taken after (a ++ b)
 front_of_first taken after a b f = record { count = f.count; within = omega (arith, f.within, length-append a b); is_taken = f.is_taken ∙ ap (λ (t : List ℕ). Some (taken ++ t)) (sym (take-append-le f.count a b f.within)) }
 
--- and so is a front of the second, once the first was taken
+-- and so is a prefix of the second, once the first was taken
 pub front_of_second : (taken : List ℕ) (after : Option (List ℕ)) (a b : List ℕ) → TookFront (taken ++ a) after b → TookFront taken after (a ++ b)
 front_of_second taken after a b f =
     record {

@@ -5,7 +5,7 @@ use Rattle.std.proofs.lemmas.List.{take-append-le}
 use Rattle.uss_link.specs.Talks.{Talk, with_sent, LastBecomes, Sends, SentFront}
 use Rattle.uss_link.proofs.Sending.{SentSince, sent_more}
 
--- a front of the first of two pieces is a front of both
+-- a prefix of the first of two pieces is a prefix of both
 pub front_of_first : (talks : List Talk) (after : Option (List Talk)) (a b : List ℕ) (n : ℕ) → SentFront talks after a n → SentFront talks after (a ++ b) n
 front_of_first talks after a b n f =
     record {
@@ -26,7 +26,7 @@ behind (x ∷ a) b = behind a b
 since : (talks : List Talk) (now : Option (List Talk)) (bytes : List ℕ) (n : ℕ) → SentFront talks now bytes n → SentSince (Some talks) now bytes n
 since talks now bytes n f = record { told = λ t is. let e : talks ≡ t = cc in subst (λ (s : List Talk). SentFront s now bytes n) e f }
 
--- a front of the second, once the first was sent
+-- a prefix of the second, once the first was sent
 front_behind : (talks middle : List Talk) (now after : Option (List Talk)) (a b : List ℕ) (n : ℕ) → SentFront talks now a (length a) → now ≡ Some middle → SentFront middle after b n → SentFront talks after (a ++ b) (length a + n)
 front_behind talks middle now after a b zero first is second =
     let same : now ≡ after = is ∙ sym (second.none refl) in
@@ -50,7 +50,7 @@ both_sent talks now after a b (Ok u) first second =
     let m = middle_at talks now a (length a) first in
     subst (λ (k : ℕ). SentFront talks after (a ++ b) k) (sym (length-append a b)) (front_behind talks m.0 now after a b (length b) first m.1 (second m.0 m.1))
 
--- and a front of both where a front of the second was
+-- and a prefix of both where a prefix of the second was
 pub front_of_second : {E : Type 0} (talks : List Talk) (now after : Option (List Talk)) (a b : List ℕ) (r : Result (Unit {0}) E) → SentFront talks now a (length a) → ((middle : List Talk) → now ≡ Some middle → OnErr r ((n : ℕ) × SentFront middle after b n)) → OnErr r ((n : ℕ) × SentFront talks after (a ++ b) n)
 front_of_second talks now after a b (Ok u) first second = tt
 front_of_second talks now after a b (Err e) first second =

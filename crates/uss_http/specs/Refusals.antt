@@ -29,7 +29,7 @@ refusal_over read.NoClient = refusal.NoClient
 refusal_over read.Fault = refusal.DialFault
 refusal_over read.Memory = refusal.Memory
 
--- the number of a refusal, none for a fault and for want of memory
+-- the number of a refusal, none for a fault and for out of memory
 abbrev pub number_of : HttpRefusal → Option ℕ
 number_of refusal.HeadTooLarge = Some 431
 number_of refusal.BadHead = Some 432
@@ -43,8 +43,8 @@ number_of refusal.ReadFault = None
 number_of refusal.DialFault = None
 number_of refusal.Memory = None
 
--- the answer of reading, for bytes that are all that a source had left: the request at their front, or why there is
--- none; of a fault and of want of memory the bytes say nothing
+-- the answer of reading, for bytes that are all that a source had left: the request at their start, or why there is
+-- none; of a fault and of out of memory the bytes say nothing
 abbrev pub IsReadFrom : List ℕ → Result Request HttpRefusal → Type 0
 IsReadFrom bytes (Ok request) = IsRequest bytes request
 IsReadFrom bytes (Err refusal.HeadTooLarge) = IsRefused bytes read.HeadTooLarge
@@ -59,7 +59,7 @@ IsReadFrom bytes (Err refusal.NoRoute) = ⊥
 IsReadFrom bytes (Err (refusal.WrongMethod allowed)) = ⊥
 IsReadFrom bytes (Err refusal.DialFault) = ⊥
 
--- the fact, unless a fault or want of memory came
+-- the fact, unless a fault or out of memory came
 abbrev pub UnlessFault : HttpRefusal → Type 0 → Type 0
 UnlessFault refusal.ReadFault P = Unit {0}
 UnlessFault refusal.DialFault P = Unit {0}

@@ -8,8 +8,8 @@ use Rattle.uss_http_response.specs.Responses.{IsResponse, IsRefused}
 use Rattle.uss_http.specs.declared.refusal.HttpRefusal.{HttpRefusal}
 use Rattle.uss_http.specs.declared.refusal.HttpRefusal.TheVariants as refusal
 
--- the answer of reading, for bytes that are all that comes up to the end of the stream: the response at their front, or why
--- there is none; of a fault and of want of memory the bytes say nothing
+-- the answer of reading, for bytes that are all that comes up to the end of the stream: the response at their start, or why
+-- there is none; of a fault and of out of memory the bytes say nothing
 abbrev pub IsReadOf : List ℕ → Result Response HttpRefusal → Type 0
 IsReadOf bytes (Ok response) = IsResponse bytes response
 IsReadOf bytes (Err refusal.HeadTooLarge) = IsRefused bytes read.HeadTooLarge
@@ -25,7 +25,7 @@ IsReadOf bytes (Err refusal.NoRoute) = ⊥
 IsReadOf bytes (Err (refusal.WrongMethod allowed)) = ⊥
 
 -- These bytes were received over the stream opened last, and nothing else of what the dial tells changed. Whatever would have
--- come behind them, and nothing where the end of the stream was given, this is the answer for all the bytes up to the end.
+-- come after them, and nothing where the end of the stream was given, this is the answer for all the bytes up to the end.
 pub record IsReadOver (talks : List Talk) (after : Option (List Talk)) (answer : Result Response HttpRefusal) : Type 0 where
   pub bytes : List ℕ
   pub is_end : Bool

@@ -13,9 +13,9 @@ use uss_http_response::{Response, response_from};
 use uss_link::{Dial, Source};
 
 /// Reads one request. Where the source tells the bytes that it has left, the answer is theirs, whatever pieces they come
-/// in: the request at their front, or why there is none. A request that isn't complete is refused. Bytes behind the
+/// in: the request at their start, or why there is none. A request that isn't complete is refused. Bytes after the
 /// request may have been taken too: a connection carries one request. But bytes are taken only while those before are no
-/// whole request and may become one, and fewer than 24 KiB behind them.
+/// whole request and may become one, and fewer than 24 KiB after them.
 pub fn read_request<S: Source>(alloc: Global, input: &mut S) -> Result<Request, HttpRefusal>
     ensures exact { (bytes : List ℕ) → S.left input.old ≡ Some bytes → IsReadFrom bytes result }
     ensures prompt { (bytes : List ℕ) → S.left input.old ≡ Some bytes → ButForFaults result (ReadsPromptly bytes (S.left input.new)) }
@@ -31,9 +31,9 @@ pub fn read_request<S: Source>(alloc: Global, input: &mut S) -> Result<Request, 
 
 /// Reads one response over the open stream of a dial, of which nothing was received before. Where the dial tells what was
 /// received, the answer is that of all the bytes up to the end of the stream, whatever pieces they come in: the response at
-/// their front, or why there is none. A response that isn't complete is refused. Bytes behind it may have been received too: a
+/// their start, or why there is none. A response that isn't complete is refused. Bytes after it may have been received too: a
 /// connection carries one response. But bytes are taken only while those before leave the answer open, and fewer than 24 KiB
-/// behind them. Whatever the answer, what was sent stays as it was, and the stream stays open. A response comes only where one was
+/// after them. Whatever the answer, what was sent stays as it was, and the stream stays open. A response comes only where one was
 /// open.
 pub fn read_response<G: Dial>(alloc: Global, dial: &mut G) -> Result<Response, HttpRefusal>
     ensures exact { (talks : List Talk) → G.talks dial.old ≡ Some talks → IsReadOver talks (G.talks dial.new) result }

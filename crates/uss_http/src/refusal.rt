@@ -61,7 +61,7 @@ pub(crate) fn of_dial(refusal: ReadRefusal) -> HttpRefusal
 }
 
 impl HttpRefusal {
-    /// The number of the refusal; none for a fault and for want of memory.
+    /// The number of the refusal; none for a fault and for out of memory.
     pub fn number(&self) -> Option<u16>
         ensures { result ≡ number_of self.now }
     {

@@ -44,7 +44,7 @@ fn head_bytes(alloc: Global, host: &[u8], request: &Request) -> Result<Vec<u8>, 
     Ok(text)
 }
 
-/// Sends two pieces one after the other over the open stream, which stays open. On a fault a front of them was sent. Bytes
+/// Sends two pieces one after the other over the open stream, which stays open. On a fault a prefix of them was sent. Bytes
 /// are sent only where a stream was open.
 fn send_both<G: Dial>(dial: &mut G, first: &[u8], second: &[u8]) -> Result<(), DialFault>
     ensures counts { Counts (G.faults dial.old) (G.faults dial.new) result }
@@ -60,8 +60,8 @@ fn send_both<G: Dial>(dial: &mut G, first: &[u8], second: &[u8]) -> Result<(), D
     send_all(dial, second)
 }
 
-/// Sends a request over the open stream of a dial, which stays open; its body without a copy of it. On a fault a front of its
-/// bytes was sent; for want of memory nothing was. A request is sent only where a stream was open.
+/// Sends a request over the open stream of a dial, which stays open; its body without a copy of it. On a fault a prefix of its
+/// bytes was sent; out of memory, nothing was. A request is sent only where a stream was open.
 pub fn write_request<G: Dial>(
     alloc: Global,
     dial: &mut G,
@@ -161,7 +161,7 @@ fn sent_body(status: u16, body: &[u8]) -> &[u8]
     if status == 204 { b"" } else { body }
 }
 
-/// Writes two pieces one after the other. On a fault a front of them was written.
+/// Writes two pieces one after the other. On a fault a prefix of them was written.
 fn write_both<K: Sink>(output: &mut K, first: &[u8], second: &[u8]) -> Result<(), WriteFault>
     ensures counts { Counts (K.faults output.old) (K.faults output.new) result }
     ensures written { (taken : List ℕ) → K.taken output.old ≡ Some taken → OnOk result (K.taken output.new ≡ Some (taken ++ (first.now ++ second.now))) }
@@ -175,7 +175,7 @@ fn write_both<K: Sink>(output: &mut K, first: &[u8], second: &[u8]) -> Result<()
 }
 
 /// Writes a response whose body is lent, as one whose text is in the program: so it can be answered that memory is out. Takes
-/// no memory. On a fault a front of its bytes was written.
+/// no memory. On a fault a prefix of its bytes was written.
 pub fn write_lent_response<K: Sink>(
     output: &mut K,
     status: u16,
@@ -189,7 +189,7 @@ pub fn write_lent_response<K: Sink>(
     write_both(output, head.as_slice(), sent_body(status, body))
 }
 
-/// Writes a response. Takes no memory. On a fault a front of its bytes was written.
+/// Writes a response. Takes no memory. On a fault a prefix of its bytes was written.
 pub fn write_response<K: Sink>(output: &mut K, response: &Response) -> Result<(), WriteFault>
     ensures counts { Counts (K.faults output.old) (K.faults output.new) result }
     ensures written { (taken : List ℕ) → K.taken output.old ≡ Some taken → OnOk result (K.taken output.new ≡ Some (taken ++ response_text response.now)) }

@@ -59,7 +59,7 @@ chunks_end gave a b c kept left rest old new had last =
       passes = passes_then had.passes (passes_behind (chunks_text had.chunks) last.passes);
     }
 
--- a stop behind the chunks read so far is one of the whole body
+-- a stop after the chunks read so far is one of the whole body
 stops_behind : (chunks : List Chunk) (body all : List ℕ) (stop : ℕ → List ℕ → Type 0) → All IsChunk chunks → body ≡ body_of chunks → length body ≤ body_limit → stop (length body) all → StopsWhere stop (chunks_text chunks ++ all)
 stops_behind chunks body all stop are carried within stops =
     record { chunks = chunks; rest = all; are_chunks = are; within = omega (arith, ap length carried); spelled = refl; stops = subst (λ (n : ℕ). stop n all) (ap length carried) stops }
@@ -74,7 +74,7 @@ chunk_missing gave ended a b c kept left body refusal.BadHead had misses = absur
 chunk_missing gave ended a b c kept left body refusal.HeadTooLarge had misses = absurd misses
 chunk_missing gave ended a b c kept left body refusal.NoClient had misses = absurd misses
 
--- trailers at the front of the bytes taken
+-- trailers at the start of the bytes taken
 pub trailers_taken : {S : Type 0} (gave : S → S → List ℕ → Type 0) (before : S) (kept : List ℕ) (after : S) (all rest : List ℕ) (fields : List Field) (end : LineEnd) → Passes gave before kept after all → ReadsSection (take piece_limit all) fields end rest → TakesTrailers gave before kept after
 trailers_taken gave before kept after all rest fields end passes reads =
     let n = length (print_section fields end) in
@@ -129,7 +129,7 @@ sized_too_large gave ended a kept n over = record { all = kept; passes = passes_
 pub nothing_taken : {S : Type 0} (gave : S → S → List ℕ → Type 0) (a : S) (kept body : List ℕ) → body ≡ [] → TakesBody gave a kept a Nothing body
 nothing_taken gave a kept body empty = record { all = kept; passes = passes_same gave a kept; is_body = empty }
 
--- behind the chunks read so far, reading stops soon
+-- after the chunks read so far, reading stops soon
 pub chunks_prompt : {S : Type 0} (gave : S → S → List ℕ → Type 0) (a b c : S) (kept left body : List ℕ) → TakesChunks gave a kept b left body → IsPrompt gave a kept b (StopsWhere IsCutOff) → IsPrompt gave b left c (IsCutOff (length body)) → IsPrompt gave a kept c (StopsWhere IsCutOff)
 chunks_prompt gave a b c kept left body had one two =
     prompt_then gave a b c kept left (chunks_text had.chunks) (StopsWhere IsCutOff) (IsCutOff (length body)) had.passes one two (λ seen cut. stops_behind had.chunks body seen IsCutOff had.are_chunks had.carried had.within cut)

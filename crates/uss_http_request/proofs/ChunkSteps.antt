@@ -17,7 +17,7 @@ use Rattle.uss_http_request.proofs.Passing.{passes_then, passes_behind}
 use Rattle.uss_http_request.proofs.Prompting.{prompt_map, prompt_then}
 use Rattle.uss_http_request.proofs.HeadSteps.{behind, short_front}
 
--- a text at the front of the first 16 KiB is at the front of the bytes
+-- a text at the start of the first 16 KiB is at the start of the bytes
 pub record AtFront (all text : List ℕ) (n : ℕ) : Type 0 where
   pub spelled : all ≡ text ++ drop n all
   pub within : length text ≤ piece_limit
@@ -154,7 +154,7 @@ pub data_prompt : {S : Type 0} (gave : S → S → List ℕ → Type 0) (a b c :
 data_prompt gave a b c kept left size so_far taken some within one two =
     prompt_then gave a b c kept left (print_chunk_line taken.line) (IsCutOff so_far) (λ (seen : List ℕ). length seen < size) taken.passes (line_prompt gave a b kept so_far one) two (λ seen short. data_cut gave a b kept left seen size so_far taken some within short)
 
--- before the CR LF behind them
+-- before the CR LF after them
 pub end_prompt : {S : Type 0} (gave : S → S → List ℕ → Type 0) (a b c d : S) (kept left rest old new : List ℕ) (size so_far : ℕ) → TakesSize gave a kept b left size → Moves gave b left c rest old new size → 0 < size → so_far + size ≤ body_limit → IsPrompt gave a kept b (λ (seen : List ℕ). (length seen < piece_limit) × IsOpenLine seen) → IsPrompt gave b left c (λ (seen : List ℕ). length seen < size) → IsPrompt gave c rest d (λ (seen : List ℕ). (length seen < piece_limit) × IsOpenLineEnd seen) → IsPrompt gave a kept d (IsCutOff so_far)
 end_prompt gave a b c d kept left rest old new size so_far taken moves some within one two three =
     let Cut : List ℕ → Type 0 = λ (seen : List ℕ). IsCutOff so_far (print_chunk_line taken.line ++ seen) in

@@ -6,7 +6,7 @@ use Rattle.uss_link.specs.Talks.{Talk, with_received, Receives, Speaks}
 use Rattle.uss_link.proofs.Sending.{stays_on}
 use Rattle.uss_http_request.specs.Dials.{heard, is_over, HeardFrom, IsOver}
 
--- the last of the streams, behind the earlier ones
+-- the last of the streams, after the earlier ones
 heard_last : (bytes : List ℕ) (is_end : Bool) (earlier : List Talk) (last : Talk) → heard bytes is_end (earlier ++ last ∷ []) ≡ earlier ++ with_received bytes is_end last ∷ []
 heard_last bytes is_end [] last = refl
 heard_last bytes is_end (talk ∷ []) last = refl

@@ -1,4 +1,4 @@
--- A front of bytes that end inside a target does too, or may become a head.
+-- A prefix of bytes that end inside a target does too, or may become a head.
 use Rattle.std.proofs.Common.{◌≡◌, ℕ, zero, suc, ◌<◌, List, [], ◌∷◌, ◌++◌, get_or, sym, refl, ap, ◌∙◌, subst, arith, lit≤, append_assoc, append-nil, ⊎_elim, inl, inr, lit<}
 use Rattle.std.specs.Prelude.{◌⊎◌, codes, IsTrue}
 use Rattle.std.proofs.lemmas.Str.{IsUtf8-from_ascii}

@@ -16,7 +16,7 @@ use Rattle.uss_http_request.specs.Streams.{Passes, UnlessOutside}
 use Rattle.uss_http_request.specs.Heads.{BeginsWith, IsOpenHead, BeginsNoHead}
 use Rattle.uss_http_request.specs.HeadAnswers.{IsHeadAt, AreRefused, MissesHead, refusal_of_head}
 
--- short bytes are their own front
+-- short bytes are their own prefix
 pub short_front : (all : List ℕ) → length all < piece_limit → take piece_limit all ≡ all
 short_front all short = take_all piece_limit all (omega arith)
 
@@ -29,7 +29,7 @@ halted_head gave ended before kept after all halt.Cut passes bad long cut =
 halted_head gave ended before kept after all halt.Fault passes bad long cut = tt
 halted_head gave ended before kept after all halt.Memory passes bad long cut = tt
 
--- what stands behind a front of that length
+-- what stands after a prefix of that length
 pub behind : (front rest : List ℕ) (n : ℕ) → n ≡ length front → drop n (front ++ rest) ≡ rest
 behind [] rest n e = ap (λ (k : ℕ). drop k rest) e
 behind (x ∷ front) rest n e = ap (λ (k : ℕ). drop k (x ∷ front ++ rest)) e ∙ behind front rest (length front) refl

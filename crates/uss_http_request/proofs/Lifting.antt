@@ -18,7 +18,7 @@ use Rattle.uss_http_request.specs.Bodies.{IsBody, IsRefusedBody}
 use Rattle.uss_http_request.specs.Requests.{IsRequest, IsRefused, IsAnswerOf, ShowsAnswer, AnswersStream}
 use Rattle.uss_http_request.proofs.Fronts.{target_front}
 
--- the front of more bytes goes on from the front of these
+-- the start of more bytes goes on from the start of these
 pub front_more : (n : ℕ) (xs ys : List ℕ) → (w : List ℕ) × (take n (xs ++ ys) ≡ take n xs ++ w)
 front_more zero xs ys = ([], refl)
 front_more (suc n) [] ys = (take (suc n) ys, refl)

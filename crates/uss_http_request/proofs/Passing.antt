@@ -55,7 +55,7 @@ moves_more gave a b c kept left old now new m n moves empty adds =
       passes = subst (λ (bytes : List ℕ). Passes gave a kept c bytes) (sym both) (passes_then first (adds.passes moves.moved));
     }
 
--- the bytes at the front were moved
+-- the bytes at the start were moved
 pub moves_front : {S : Type 0} (gave : S → S → List ℕ → Type 0) (s : S) (kept old new : List ℕ) (n : ℕ) → n ≤ length kept → new ≡ old ++ take n kept → Moves gave s kept s (drop n kept) old new n
 moves_front gave s kept old new n within added =
     record {
@@ -65,7 +65,7 @@ moves_front gave s kept old new n within added =
       passes = subst (λ (bytes : List ℕ). Passes gave s kept s bytes) (sym (take-append-drop n kept)) (passes_same gave s kept);
     }
 
--- the same behind bytes that were not used
+-- the same after bytes that were not used
 pub passes_behind : {S : Type 0} {gave : S → S → List ℕ → Type 0} {a b : S} {x y : List ℕ} → (front : List ℕ) → Passes gave a x b y → Passes gave a (front ++ x) b (front ++ y)
 passes_behind {gave = gave} {a = a} {b = b} {x = x} {y = y} front went =
     record { told = λ origin past had. subst (gave origin b) (append_assoc past front y) (went.told origin (past ++ front) (subst (gave origin a) (sym (append_assoc past front x)) had)) }

@@ -47,7 +47,7 @@ pub record ShowsNoBody {S : Type 0} (gave : S → S → List ℕ → Type 0) (en
   pub refused : IsRefusedBody framing all e
   pub end : e ≡ refusal.Truncated → ended after
 
--- the same, unless a fault or want of memory came
+-- the same, unless a fault or out of memory came
 abbrev pub MissesBody : {S : Type 0} (gave : S → S → List ℕ → Type 0) (ended : S → Type 0) (before : S) (kept : List ℕ) (after : S) → Framing → ReadRefusal → Type 0
 MissesBody gave ended before kept after framing refusal.Fault = Unit {0}
 MissesBody gave ended before kept after framing refusal.Memory = Unit {0}

@@ -27,7 +27,7 @@ pub record TakesTrailers {S : Type 0} (gave : S → S → List ℕ → Type 0) (
   pub are_trailers : AreTrailers fields end
   pub passes : Passes gave before kept after (print_section fields end ++ rest)
 
--- no trailers can be at the front
+-- no trailers can be at the start
 abbrev pub HaveNoTrailers : List ℕ → Type 0
 HaveNoTrailers bytes = NeverHasSection (take piece_limit bytes)
 

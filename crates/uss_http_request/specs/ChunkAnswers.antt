@@ -22,7 +22,7 @@ pub record ShowsStop {S : Type 0} (gave : S → S → List ℕ → Type 0) (befo
   pub passes : Passes gave before kept after all
   pub stops : stop all
 
--- why no further chunk was taken, behind so many bytes of the body
+-- why no further chunk was taken, after so many bytes of the body
 abbrev pub MissesChunk : {S : Type 0} (gave : S → S → List ℕ → Type 0) (ended : S → Type 0) (before : S) (kept : List ℕ) (after : S) (so_far : ℕ) → ReadRefusal → Type 0
 MissesChunk gave ended before kept after so_far refusal.BadChunk = ShowsStop gave before kept after (ChunkFault so_far)
 MissesChunk gave ended before kept after so_far refusal.BodyTooLarge = ShowsStop gave before kept after (IsTooMuch so_far)

@@ -17,7 +17,7 @@ pub record Chunk : Type 0 where
   pub line : ChunkLine
   pub bytes : List ℕ
 
--- behind the bytes stands a CR LF
+-- after the bytes stands a CR LF
 abbrev pub print_chunk : Chunk → List ℕ
 print_chunk chunk = print_chunk_line chunk.line ++ (chunk.bytes ++ crlf_bytes)
 
@@ -38,7 +38,7 @@ pub record IsLastLine (line : ChunkLine) : Type 0 where
   pub line_is : IsSizeLine line
   pub none : chunk_size line ≡ 0
 
--- the trailers: fields, and the empty line behind them. They are dropped.
+-- the trailers: fields, and the empty line after them. They are dropped.
 pub record AreTrailers (fields : List Field) (end : LineEnd) : Type 0 where
   pub valid : All IsField fields
   pub within : length (print_section fields end) ≤ piece_limit
@@ -57,7 +57,7 @@ pub record IsChunked (bytes body : List ℕ) : Type 0 where
   pub carried : body ≡ body_of chunks
   pub within : length body ≤ body_limit
 
--- no line is at the front yet, and more bytes may make one
+-- no line is at the start yet, and more bytes may make one
 pub record IsOpenLine (bytes : List ℕ) : Type 0 where
   pub none : HasNoChunkLine bytes
   pub may : MayBecomeChunkLine bytes
@@ -84,7 +84,7 @@ pub record HasSizeLine (bytes : List ℕ) (line : ChunkLine) (rest : List ℕ) :
   pub line_is : IsSizeLine line
   pub spelled : bytes ≡ print_chunk_line line ++ rest
 
--- the bytes begin with a chunk, up to its CR LF, that is within the limit behind so many bytes of the body
+-- the bytes begin with a chunk, up to its CR LF, that is within the limit after so many bytes of the body
 pub record HasData (so_far : ℕ) (bytes : List ℕ) (line : ChunkLine) (rest : List ℕ) : Type 0 where
   pub chunk_bytes : List ℕ
   pub line_is : IsSizeLine line
@@ -93,7 +93,7 @@ pub record HasData (so_far : ℕ) (bytes : List ℕ) (line : ChunkLine) (rest : 
   pub within : so_far + chunk_size line ≤ body_limit
   pub spelled : bytes ≡ print_chunk_line line ++ (chunk_bytes ++ rest)
 
--- What is wrong with the bytes behind the chunks read so far, which carry so many bytes. Nothing comes before the
+-- What is wrong with the bytes after the chunks read so far, which carry so many bytes. Nothing comes before the
 -- whole piece that it belongs to was refused or found too long.
 pub data ChunkFault (so_far : ℕ) (bytes : List ℕ) : Type 0 where
   no_line : NeverHasChunkLine (take piece_limit bytes) → ChunkFault so_far bytes
@@ -109,7 +109,7 @@ pub record IsTooMuch (so_far : ℕ) (bytes : List ℕ) : Type 0 where
   pub has : HasSizeLine bytes line rest
   pub over : body_limit < so_far + chunk_size line
 
--- where the bytes stop: in a size line, in a chunk's bytes, before the CR LF behind them, or in the trailers
+-- where the bytes stop: in a size line, in a chunk's bytes, before the CR LF after them, or in the trailers
 pub data IsCutOff (so_far : ℕ) (bytes : List ℕ) : Type 0 where
   in_line : length bytes < piece_limit → IsOpenLine bytes → IsCutOff so_far bytes
   in_data : (line : ChunkLine) (rest : List ℕ) → HasSizeLine bytes line rest → 0 < chunk_size line → so_far + chunk_size line ≤ body_limit → length rest < chunk_size line → IsCutOff so_far bytes

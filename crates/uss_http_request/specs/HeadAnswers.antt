@@ -80,7 +80,7 @@ pub record ShowsNoHead {S : Type 0} (gave : S → S → List ℕ → Type 0) (en
   pub refused : IsRefusedHead all e
   pub end : e ≡ refusal.Truncated → ended after
 
--- the same, unless a fault or want of memory came
+-- the same, unless a fault or out of memory came
 abbrev pub MissesHead : {S : Type 0} (gave : S → S → List ℕ → Type 0) (ended : S → Type 0) (before : S) (kept : List ℕ) (after : S) → ReadRefusal → Type 0
 MissesHead gave ended before kept after refusal.Fault = Unit {0}
 MissesHead gave ended before kept after refusal.Memory = Unit {0}

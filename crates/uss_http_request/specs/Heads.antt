@@ -9,12 +9,12 @@ pub record BeginsWith (bytes : List ℕ) (head : RequestHead) (rest : List ℕ) 
   pub spelled : bytes ≡ print_request head ++ rest
   pub within : length (print_request head) ≤ piece_limit
 
--- no head is at the front yet, and more bytes may make one
+-- no head is at the start yet, and more bytes may make one
 pub record IsOpenHead (bytes : List ℕ) : Type 0 where
   pub none : HasNoRequest bytes
   pub may : MayBecomeRequest bytes
 
--- whatever follows, no head is at the front. Bytes that end inside the target of a request count as the beginning
+-- whatever follows, no head is at the start. Bytes that end inside the target of a request count as the beginning
 -- of a head.
 pub record BeginsNoHead (bytes : List ℕ) : Type 0 where
   pub never : NeverHasRequest bytes

@@ -3,7 +3,7 @@ use Rattle.std.specs.Prelude.{ℕ}
 use Rattle.uss_http_request.specs.declared.piece.Look.{Look}
 use Rattle.uss_http_request.specs.declared.piece.Look.TheVariants as look
 
--- 16 KiB, within which a head, a line before a chunk and the fields behind the last chunk have to end
+-- 16 KiB, within which a head, a line before a chunk and the fields after the last chunk have to end
 abbrev pub piece_limit : ℕ
 piece_limit = 16384
 

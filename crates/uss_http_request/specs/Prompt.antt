@@ -8,12 +8,12 @@ use Rattle.uss_http_request.specs.Streams.{Passes}
 abbrev pub call_limit : ℕ
 call_limit = 16384
 
--- Bytes that were taken behind others: those that one call gave, and before it fewer than the others, and fewer than 8 KiB.
+-- Bytes that were taken after others: those that one call gave, and before it fewer than the others, and fewer than 8 KiB.
 pub record AreFew (seen late : List ℕ) : Type 0 where
   pub doubled : length late ≤ length seen + call_limit
   pub within : length late < 8192 + call_limit
 
--- the new bytes are the old ones, and behind them few
+-- the new bytes are the old ones, and after them few
 pub record GrowsBy (old new : List ℕ) (n : ℕ) : Type 0 where
   pub late : List ℕ
   pub added : new ≡ old ++ late
@@ -23,7 +23,7 @@ pub record GrowsBy (old new : List ℕ) (n : ℕ) : Type 0 where
 pub record Stays {S : Type 0} (gave : S → S → List ℕ → Type 0) (before after : S) : Type 0 where
   pub told : (origin : S) (past : List ℕ) → gave origin before past → gave origin after past
 
--- the bytes that came are some that left this open, and few behind them
+-- the bytes that came are some that left this open, and few after them
 pub record StopsSoon {S : Type 0} (gave : S → S → List ℕ → Type 0) (before : S) (kept : List ℕ) (after : S) (open_by : List ℕ → Type 0) : Type 0 where
   pub seen : List ℕ
   pub late : List ℕ
@@ -36,7 +36,7 @@ pub data IsPrompt {S : Type 0} (gave : S → S → List ℕ → Type 0) (before 
   stays : Stays gave before after → IsPrompt gave before kept after open_by
   soon : StopsSoon gave before kept after open_by → IsPrompt gave before kept after open_by
 
--- the fact, unless a fault or want of memory came
+-- the fact, unless a fault or out of memory came
 abbrev pub UnlessFault : ReadRefusal → Type 0 → Type 0
 UnlessFault refusal.Fault P = Unit {0}
 UnlessFault refusal.Memory P = Unit {0}

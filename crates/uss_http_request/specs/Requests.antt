@@ -30,8 +30,8 @@ pub record HasRefusedBody (bytes : List ℕ) (e : ReadRefusal) : Type 0 where
 abbrev pub IsRefused : List ℕ → ReadRefusal → Type 0
 IsRefused bytes e = IsRefusedHead bytes e ⊎ HasRefusedBody bytes e
 
--- the answer for bytes that are all that came: the request at their front, or why there is none. Of a fault and of
--- want of memory the bytes say nothing.
+-- the answer for bytes that are all that came: the request at their start, or why there is none. Of a fault and of
+-- out of memory the bytes say nothing.
 abbrev pub IsAnswerOf : List ℕ → Result Request ReadRefusal → Type 0
 IsAnswerOf bytes (Ok request) = IsRequest bytes request
 IsAnswerOf bytes (Err refusal.Fault) = Unit {0}
@@ -50,7 +50,7 @@ pub record ShowsAnswer {S : Type 0} (gave : S → S → List ℕ → Type 0) (en
   pub is_answer : IsAnswerOf all answer
   pub end : answer ≡ Err refusal.Truncated → ended after
 
--- the same, unless a fault or want of memory came
+-- the same, unless a fault or out of memory came
 abbrev pub AnswersStream : {S : Type 0} (gave : S → S → List ℕ → Type 0) (ended : S → Type 0) (before after : S) → Result Request ReadRefusal → Type 0
 AnswersStream gave ended before after (Ok request) = ShowsAnswer gave ended before after (Ok request)
 AnswersStream gave ended before after (Err refusal.Fault) = Unit {0}
@@ -63,7 +63,7 @@ AnswersStream gave ended before after (Err refusal.BadChunk) = ShowsAnswer gave 
 AnswersStream gave ended before after (Err refusal.Truncated) = ShowsAnswer gave ended before after (Err refusal.Truncated)
 
 -- Of the bytes that were left, those that were taken are some that are no whole message and may become one, or none at all, and
--- few behind them. The others are left.
+-- few after them. The others are left.
 pub record ReadsPromptly (left : List ℕ) (after : Option (List ℕ)) : Type 0 where
   pub seen : List ℕ
   pub late : List ℕ

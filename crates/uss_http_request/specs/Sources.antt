@@ -7,7 +7,7 @@ pub record Leaves (left : List ℕ) (after : Option (List ℕ)) (bytes : List �
   pub is_left : after ≡ Some rest
   pub parts : left ≡ bytes ++ rest
 
--- where a source tells what it had left before, these bytes were its front, and it tells the rest
+-- where a source tells what it had left before, these bytes were its prefix, and it tells the rest
 pub record GaveFrom (before after : Option (List ℕ)) (bytes : List ℕ) : Type 0 where
   pub told : (left : List ℕ) → before ≡ Some left → Leaves left after bytes
 

@@ -3,7 +3,7 @@ use Rattle.std.specs.Prelude.{◌≡◌, ◌<◌, ℕ, List, [], ◌++◌, lengt
 use Rattle.uss_http_request.specs.declared.halt.Halt.{Halt}
 use Rattle.uss_http_request.specs.declared.halt.Halt.TheVariants as halt
 
--- the bytes that came by one call, which stand at the front of the buffer that it filled
+-- the bytes that came by one call, which stand at the start of the buffer that it filled
 abbrev pub come : {E : Type 0} → Result ℕ E → (filled : List ℕ) → List ℕ
 come (Ok n) filled = take n filled
 come (Err e) filled = []

@@ -59,7 +59,7 @@ fn take_size<K, T: Stream<K>>(stream: &mut T, intake: &mut Intake) -> Result<u64
     Ok(size)
 }
 
-/// Takes the CR LF behind the bytes of a chunk.
+/// Takes the CR LF after the bytes of a chunk.
 #[tactic(auto, using(crate::proofs::Passing::hears_then, crate::proofs::Passing::hears_same))]
 fn take_line_end<K, T: Stream<K>>(stream: &mut T, intake: &mut Intake) -> Result<(), Halt>
     ensures taken { OnOk result (Passes T.gave stream.old intake.old stream.new (crlf_bytes ++ intake.new)) }

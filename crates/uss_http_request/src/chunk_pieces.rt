@@ -34,7 +34,7 @@ impl Piece for SizeLine {
     }
 }
 
-/// The CR LF behind the bytes of a chunk.
+/// The CR LF after the bytes of a chunk.
 #[derive(Clone, Copy)]
 pub struct ChunkEnd;
 

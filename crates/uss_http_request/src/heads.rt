@@ -31,7 +31,7 @@ const ROOM: usize = 5462;
 const FIRST_ROOM: usize = 64;
 
 /// Heads of requests, with the places of the fields of the last one that was found. There is memory for all places from
-/// the start; those behind the first are made only where a head has more fields.
+/// the start; those after the first are made only where a head has more fields.
 #[derive(Drop)]
 pub struct RequestHeads {
     headers: Vec<HeaderSpan>,
@@ -109,7 +109,7 @@ impl Piece for RequestHeads {
     }
 }
 
-/// What the bytes show of a head at their front, or none where there are fewer places than it may have fields.
+/// What the bytes show of a head at their start, or none where there are fewer places than it may have fields.
 fn look_for_head(bytes: &[u8], headers: &mut [HeaderSpan]) -> Option<Look<RequestSpans>>
     requires { length bytes.now ≤ piece_limit }
     ensures look { IfSome result (λ look. MatchLook look (λ spans. IsRequestOf bytes.now headers.new spans × IsRequestWithin bytes.now headers.new spans) (IsOpenHead bytes.now) (BeginsNoHead bytes.now)) }

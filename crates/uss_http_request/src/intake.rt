@@ -22,7 +22,7 @@ pub enum More {
     End,
 }
 
-/// The bytes that came and were not used yet, seen as their list. Bytes are used from the front, and come at the
+/// The bytes that came and were not used yet, seen as their list. Bytes are used from the start, and come at the
 /// end.
 #[derive(Drop)]
 pub struct Intake {
@@ -31,7 +31,7 @@ pub struct Intake {
     start: usize,
     // what the next bytes are read into
     piece: Vec<u8>,
-    // empty, but for the time of a move of the bytes to the front
+    // empty, but for the time of a move of the bytes to the start
     spare: Vec<u8>,
 }
 
@@ -121,7 +121,7 @@ impl Intake {
         }
     }
 
-    /// Uses so many bytes at the front.
+    /// Uses so many bytes at the start.
     pub fn use_front(&mut self, count: usize)
         requires { count ≤ length self.old }
         ensures { self.new ≡ drop count self.old }

@@ -12,7 +12,7 @@ fn text_end(bytes: &[u8], line_feed: usize) -> usize
     }
 }
 
-/// Whether an empty line ends with the LF there, behind a line that isn't empty.
+/// Whether an empty line ends with the LF there, after a line that isn't empty.
 fn ends_fields(bytes: &[u8], line_feed: usize) -> bool
     requires { line_feed < length bytes.now }
 {
@@ -24,7 +24,7 @@ fn ends_fields(bytes: &[u8], line_feed: usize) -> bool
     text > 0 && bytes[text - 1] != b'\n'
 }
 
-/// Whether an empty line ends behind the first `from` bytes, behind a line that isn't empty. So it is at the end of the
+/// Whether an empty line ends after the first `from` bytes, after a line that isn't empty. So it is at the end of the
 /// fields of a head, and of trailers that have any. Empty lines before a head don't count.
 pub fn fields_may_end(bytes: &[u8], from: usize) -> bool
     requires { from ≤ length bytes.now }

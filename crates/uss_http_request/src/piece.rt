@@ -19,7 +19,7 @@ pub enum Look<F> {
     Never,
 }
 
-/// A kind of piece of a message, which is found at the front of bytes.
+/// A kind of piece of a message, which is found at the start of bytes.
 pub trait Piece {
     /// What is told of a piece that was found.
     type Found: Copy + Drop;
@@ -38,7 +38,7 @@ pub trait Piece {
         requires { length bytes.now ≤ piece_limit }
         ensures { MatchLook result (found self.new bytes.now) (unfinished bytes.now) (never self.new bytes.now) };
 
-    /// Whether such a piece may end behind the first `from` of these bytes. Where it may not, the bytes are looked at again
+    /// Whether such a piece may end after the first `from` of these bytes. Where it may not, the bytes are looked at again
     /// only once their number has doubled. So the answer decides how soon a piece is found, and not which.
     fn may_end(&self, bytes: &[u8], from: usize) -> bool
         requires { from ≤ length bytes.now };
@@ -87,7 +87,7 @@ fn take_on<K, T: Stream<K>, P: Piece>(
     Ok(More::Some)
 }
 
-/// Takes bytes until a look at them shows a whole piece at their front. The piece stays among the bytes not yet
+/// Takes bytes until a look at them shows a whole piece at their start. The piece stays among the bytes not yet
 /// used. It looks again only when the piece may have ended, the bytes doubled, or their limit was reached.
 #[tactic(auto, using(crate::proofs::Passing::hears_then, crate::proofs::Passing::hears_same, crate::proofs::Prompting::prompt_same))]
 pub fn take_piece<K, T: Stream<K>, P: Piece>(

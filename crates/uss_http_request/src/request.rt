@@ -25,7 +25,7 @@ pub struct Request {
     pub body: Bytes,
 }
 
-/// Takes one request from a stream of which nothing was read before. Bytes behind it may have been taken too: a
+/// Takes one request from a stream of which nothing was read before. Bytes after it may have been taken too: a
 /// connection carries one request.
 #[tactic(auto, using(crate::proofs::Passing::hears_then, crate::proofs::Passing::hears_same))]
 pub fn take_request<K, T: Stream<K>>(alloc: Global, stream: &mut T) -> Result<Request, ReadRefusal>

@@ -32,8 +32,8 @@ impl<S: Source> Stream<FromSource> for S {
 }
 
 /// Reads one request from a source. The answer is that of the bytes that the source has left, whatever pieces they come
-/// in, if it tells them: the request at their front, or why there is none. Bytes are taken only while those before are no
-/// whole message and may become one, and fewer than 24 KiB behind them.
+/// in, if it tells them: the request at their start, or why there is none. Bytes are taken only while those before are no
+/// whole message and may become one, and fewer than 24 KiB after them.
 pub fn request_from<S: Source>(alloc: Global, input: &mut S) -> Result<Request, ReadRefusal>
     ensures exact { (bytes : List ℕ) → S.left input.old ≡ Some bytes → IsAnswerOf bytes result }
     ensures prompt { (bytes : List ℕ) → S.left input.old ≡ Some bytes → ButForFaults result (ReadsPromptly bytes (S.left input.new)) }

@@ -17,7 +17,7 @@ pub trait Stream<K> {
     /// Nothing more comes.
     ghost ended: { Self → Type 0 };
 
-    /// Takes bytes into the front of the buffer, and says how many. None in a buffer that isn't empty is the end.
+    /// Takes bytes into the start of the buffer, and says how many. None in a buffer that isn't empty is the end.
     fn next(&mut self, buffer: &mut [u8]) -> Result<usize, StreamFault>
         ensures counts { Counts (faults self.old) (faults self.new) result }
         ensures within { IfOk result (λ n. n ≤ length buffer.old) }

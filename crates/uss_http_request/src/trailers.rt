@@ -18,7 +18,7 @@ use httparse::{Error, Status};
 use std::alloc::{AllocError, Global};
 use std::marker::Model;
 
-/// The fields behind the last chunk of a body, which are dropped.
+/// The fields after the last chunk of a body, which are dropped.
 #[derive(Drop)]
 pub struct Trailers {
     headers: Vec<HeaderSpan>,
@@ -44,7 +44,7 @@ impl Trailers {
 }
 
 impl Piece for Trailers {
-    /// The length of the trailers, with the empty line behind them.
+    /// The length of the trailers, with the empty line after them.
     type Found = usize;
 
     ghost found = { λ _ bytes len. (fields : List Field) × (end : LineEnd) × ReadsSection bytes fields end (drop len bytes) };
@@ -69,7 +69,7 @@ impl Piece for Trailers {
     }
 }
 
-/// What the bytes show of trailers at their front, or none where there are fewer places than they may have fields.
+/// What the bytes show of trailers at their start, or none where there are fewer places than they may have fields.
 fn look_for_trailers(bytes: &[u8], headers: &mut [HeaderSpan]) -> Option<Look<usize>>
     requires { length bytes.now ≤ piece_limit }
     ensures look { IfSome result (λ look. MatchLook look (λ len. (fields : List Field) × (end : LineEnd) × ReadsSection bytes.now fields end (drop len bytes.now)) (AreOpenTrailers bytes.now) (NeverHasSection bytes.now)) }

@@ -32,14 +32,14 @@ NothingMore ended now more = ended now → more ≡ []
 given : {S : Type 0} (gave : S → S → List ℕ → Type 0) (s t : S) (kept all : List ℕ) → gave s s [] → kept ≡ [] → Passes gave s kept t all → gave s t all
 given gave s t kept all nothing empty passes = passes.told s [] (subst (gave s s) (sym empty) nothing)
 
--- a fault, or want of memory: some bytes came
+-- a fault, or out of memory: some bytes came
 pub faulted : {S : Type 0} (gave : S → S → List ℕ → Type 0) (ended : S → Type 0) (s t : S) → gave s s [] → Hears gave s t → ShowsAnswer gave ended s t (Err refusal.Fault)
 faulted gave ended s t nothing hears = let came = hears.more s [] nothing in record { all = came.0; given = came.1; is_answer = λ more none. tt }
 
 pub wanted : {S : Type 0} (gave : S → S → List ℕ → Type 0) (ended : S → Type 0) (s t : S) → gave s s [] → Hears gave s t → ShowsAnswer gave ended s t (Err refusal.Memory)
 wanted gave ended s t nothing hears = let came = hears.more s [] nothing in record { all = came.0; given = came.1; is_answer = λ more none. tt }
 
--- a head is at the front of more bytes too
+-- a head is at the start of more bytes too
 begins_more : (all rest more : List ℕ) (tree : ResponseHead) → BeginsWith all tree rest → BeginsWith (all ++ more) tree (rest ++ more)
 begins_more all rest more tree b = record { valid = b.valid; spelled = ap (λ (l : List ℕ). l ++ more) b.spelled ∙ append_assoc (print_response tree) rest more; within = b.within }
 
@@ -78,7 +78,7 @@ head_missing gave ended s t kept refusal.BadChunk nothing empty hears m = absurd
 head_missing gave ended s t kept refusal.Fault nothing empty hears m = faulted gave ended s t nothing hears
 head_missing gave ended s t kept refusal.Memory nothing empty hears m = wanted gave ended s t nothing hears
 
--- a body, whatever would have come behind it
+-- a body, whatever would have come after it
 record HasBodyAt {S : Type 0} (gave : S → S → List ℕ → Type 0) (ended : S → Type 0) (before : S) (kept : List ℕ) (after : S) (end : BodyEnd) (body : List ℕ) : Type 0 where
   pub all : List ℕ
   pub passes : Passes gave before kept after all
@@ -128,7 +128,7 @@ no_body gave ended s t u kept left head e nothing empty taken shows go =
       is_answer = λ more none. go ((print_response taken.has.tree ++ shows.all) ++ more) (inr (record { head = head; rest = shows.all ++ more; has_head = with_more taken.all left shows.all more head taken.has; refused = shows.refused more none }));
     }
 
--- why no body was taken, apart from a fault and want of memory
+-- why no body was taken, apart from a fault and out of memory
 missed : {S : Type 0} (gave : S → S → List ℕ → Type 0) (ended : S → Type 0) (s t : S) (kept : List ℕ) (end : BodyEnd) (e : ReadRefusal) → (e ≡ refusal.Fault → ⊥) → (e ≡ refusal.Memory → ⊥) → MissesBodyAt gave ended s kept t end e → HasNoBodyAt gave ended s kept t end e
 missed gave ended s t kept (Framed framing) refusal.HeadTooLarge f w m = framed_refused gave ended s t kept framing refusal.HeadTooLarge (λ same. cc) m
 missed gave ended s t kept (Framed framing) refusal.BadHead f w m = framed_refused gave ended s t kept framing refusal.BadHead (λ same. cc) m

@@ -30,7 +30,7 @@ pub record ShowsNoHead {S : Type 0} (gave : S → S → List ℕ → Type 0) (en
   pub refused : IsRefusedHead all e
   pub end : e ≡ refusal.Truncated → ended after
 
--- the same, unless a fault or want of memory came
+-- the same, unless a fault or out of memory came
 abbrev pub MissesHead : {S : Type 0} (gave : S → S → List ℕ → Type 0) (ended : S → Type 0) (before : S) (kept : List ℕ) (after : S) → ReadRefusal → Type 0
 MissesHead gave ended before kept after refusal.Fault = Unit {0}
 MissesHead gave ended before kept after refusal.Memory = Unit {0}
@@ -74,7 +74,7 @@ abbrev pub MissesBodyAt : {S : Type 0} (gave : S → S → List ℕ → Type 0) 
 MissesBodyAt gave ended before kept after (Framed framing) e = MissesBody gave ended before kept after framing e
 MissesBodyAt gave ended before kept after AtTheEnd e = MissesRest gave before kept after e
 
--- What came over a stream that nothing was read of before. Whatever would have come behind it, and nothing where the stream
+-- What came over a stream that nothing was read of before. Whatever would have come after it, and nothing where the stream
 -- has ended, this is the answer for all the bytes up to the end.
 pub record ShowsAnswer {S : Type 0} (gave : S → S → List ℕ → Type 0) (ended : S → Type 0) (before after : S) (answer : Result Response ReadRefusal) : Type 0 where
   pub all : List ℕ

@@ -18,7 +18,7 @@ pub record BeginsWith (bytes : List ℕ) (head : ResponseHead) (rest : List ℕ)
   pub spelled : bytes ≡ print_response head ++ rest
   pub within : length (print_response head) ≤ piece_limit
 
--- no head is at the front yet, and more bytes may make one
+-- no head is at the start yet, and more bytes may make one
 pub record IsOpenHead (bytes : List ℕ) : Type 0 where
   pub none : HasNoResponse bytes
   pub may : MayBecomeResponse bytes

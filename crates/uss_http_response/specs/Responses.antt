@@ -44,7 +44,7 @@ pub record HasRefusedBody (bytes : List ℕ) (e : ReadRefusal) : Type 0 where
   pub has_head : HasHead bytes head rest
   pub refused : IsRefusedBodyAt head.body rest e
 
--- bytes behind the head that leave the body open: those cut short, and within the limit any, where the body ends with the stream
+-- bytes after the head that leave the body open: those cut short, and within the limit any, where the body ends with the stream
 abbrev pub IsOpenBodyAt : BodyEnd → List ℕ → Type 0
 IsOpenBodyAt (Framed framing) bytes = IsRefusedBody framing bytes refusal.Truncated
 IsOpenBodyAt AtTheEnd bytes = length bytes ≤ body_limit
@@ -64,8 +64,8 @@ IsOpen bytes = IsRefusedHead bytes refusal.Truncated ⊎ HasOpenBody bytes
 abbrev pub IsRefused : List ℕ → ReadRefusal → Type 0
 IsRefused bytes e = IsRefusedHead bytes e ⊎ HasRefusedBody bytes e
 
--- the answer for bytes that are all that came up to the end of the stream: the response at their front, or why there is
--- none. Of a fault and of want of memory the bytes say nothing.
+-- the answer for bytes that are all that came up to the end of the stream: the response at their start, or why there is
+-- none. Of a fault and of out of memory the bytes say nothing.
 abbrev pub IsAnswerOf : List ℕ → Result Response ReadRefusal → Type 0
 IsAnswerOf bytes (Ok response) = IsResponse bytes response
 IsAnswerOf bytes (Err refusal.Fault) = Unit {0}

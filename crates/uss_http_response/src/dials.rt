@@ -11,9 +11,9 @@ use uss_link::Dial;
 
 /// Reads one response over the open stream of a dial, of which nothing was received before. Where the dial tells what was
 /// received, the answer is that of all the bytes up to the end of the stream, those received now and whatever would have
-/// come behind them: the response at their front, or why there is none. Whatever the answer, nothing but what was received
+/// come after them: the response at their start, or why there is none. Whatever the answer, nothing but what was received
 /// over the last stream changed, and it stays open. A response comes only where a stream was open. Bytes are taken only while
-/// those before leave the answer open, and fewer than 24 KiB behind them.
+/// those before leave the answer open, and fewer than 24 KiB after them.
 pub fn response_from<G: Dial>(alloc: Global, dial: &mut G) -> Result<Response, ReadRefusal>
     ensures exact { (talks : List Talk) → G.talks dial.old ≡ Some talks → IsReceived talks (G.talks dial.new) result }
     ensures prompt { (talks : List Talk) → G.talks dial.old ≡ Some talks → ButForFaults result (ReceivesPromptly talks (G.talks dial.new)) }

@@ -19,7 +19,7 @@ use uss_http_request::{
 };
 
 /// Heads of responses, with the places of the fields of the last one that was found. There is memory for all places from
-/// the start; those behind the first are made only where a head has more fields.
+/// the start; those after the first are made only where a head has more fields.
 #[derive(Drop)]
 pub struct ResponseHeads {
     headers: Vec<HeaderSpan>,
@@ -78,7 +78,7 @@ impl Piece for ResponseHeads {
     }
 }
 
-/// What the bytes show of a head at their front, or none where there are fewer places than it may have fields.
+/// What the bytes show of a head at their start, or none where there are fewer places than it may have fields.
 fn look_for_head(bytes: &[u8], headers: &mut [HeaderSpan]) -> Option<Look<ResponseSpans>>
     requires { length bytes.now ≤ piece_limit }
     ensures look { IfSome result (λ look. MatchLook look (λ spans. IsResponseOf bytes.now headers.new spans × IsResponseWithin bytes.now headers.new spans) (IsOpenHead bytes.now) (NeverHasResponse bytes.now)) }

@@ -40,7 +40,7 @@ fn take_body_at<K, T: Stream<K>>(
     }
 }
 
-/// Takes one response from a stream of which nothing was read before. Bytes behind it may have been taken too: a
+/// Takes one response from a stream of which nothing was read before. Bytes after it may have been taken too: a
 /// connection carries one response.
 #[tactic(auto, using(uss_http_request::proofs::Passing::hears_then, uss_http_request::proofs::Passing::hears_same))]
 pub fn take_response<K, T: Stream<K>>(

@@ -42,7 +42,7 @@ impl Grid {
         }
     }
 
-    /// Puts a box under an identifier that isn't there. For want of memory nothing changes.
+    /// Puts a box under an identifier that isn't there. Out of memory, nothing changes.
     pub fn insert(&mut self, id: u64, b: Box4) -> Result<(), AllocError>
         requires { box_at self.old id ≡ None }
         ensures ok { OnOk result (self.new ≡ insert_entry nat_cmp self.old id b) }
@@ -76,7 +76,7 @@ impl Grid {
         true
     }
 
-    /// Fills `found` with the identifiers, ascending, of all boxes that have a point in common with `q`. For want of memory `found` is
+    /// Fills `found` with the identifiers, ascending, of all boxes that have a point in common with `q`. Out of memory, `found` is
     /// empty. It takes memory for `found` alone, and none where that has room enough.
     pub fn candidates(&self, q: &Box4, found: &mut Vec<u64>) -> Result<(), AllocError>
         ensures value { OnOk result (found.new.items ≡ candidates_of self.now q.now) }

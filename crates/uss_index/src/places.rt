@@ -35,7 +35,7 @@ impl Places {
         }
     }
 
-    /// Puts a box of which nothing stands here where it belongs. For want of memory nothing changes.
+    /// Puts a box of which nothing stands here where it belongs. Out of memory, nothing changes.
     pub(crate) fn enter(&mut self, id: u64, b: Box4) -> Result<(), AllocError>
         requires { StandsAt id None self.old.slots.boxes self.old.wide }
         ensures ok { OnOk result (IsPut id (Some b) self.old.slots.boxes self.new.slots.boxes self.old.wide self.new.wide) }

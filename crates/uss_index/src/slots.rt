@@ -30,7 +30,7 @@ impl Slots {
         }
     }
 
-    /// Puts the box into these cells, where nothing of its identifier stands. For want of memory nothing changes.
+    /// Puts the box into these cells, where nothing of its identifier stands. Out of memory, nothing changes.
     pub(crate) fn enter(&mut self, id: u64, b: &Box4, cells: Cells) -> Result<(), AllocError>
         requires in_order { AreInOrder cells }
         requires absent { (s : Slot) → is_slot_of id cells s ≡ true → tree.get slot_cmp self.old.boxes s ≡ None }
@@ -46,7 +46,7 @@ impl Slots {
         Ok(())
     }
 
-    /// Puts the box into those of these cells that stand in this column. For want of memory some may have it and others not.
+    /// Puts the box into those of these cells that stand in this column. Out of memory, some may have it and others not.
     fn enter_column(&mut self, id: u64, b: &Box4, cells: Cells, x: i64) -> Result<(), AllocError>
         requires { AreInOrder cells }
         ensures ok { OnOk result (AreSet (is_slot_in id cells x) (Some b.now) self.old.boxes self.new.boxes) }

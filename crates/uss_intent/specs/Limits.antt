@@ -18,7 +18,7 @@ most_vertices = 10000
 abbrev pub most_references : ℕ
 most_references = 4096
 
--- the subscriptions, called tickets, that the service keeps at one moment; no change has to be told to more
+-- the subscriptions, called tickets, that the service keeps at one moment; no change notifies more
 abbrev pub most_tickets : ℕ
 most_tickets = 8192
 

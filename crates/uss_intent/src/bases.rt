@@ -36,7 +36,7 @@ fn is_http(url: &Url) -> bool
     url.scheme() == "http" && url.query().is_none() && url.fragment().is_none()
 }
 
-// `Overflow` is want of memory, since no clause of `url` ties it to a length.
+// `Overflow` is out of memory, since no clause of `url` ties it to a length.
 fn reads_as_http(alloc: Global, text: &str) -> Result<bool, AllocError>
     ensures { IfOk result (λ b. b ≡ is_plain_http (parse_url None text.now)) }
 {

@@ -84,12 +84,12 @@ pub enum DssReply {
     Found(References),
     /// To a Get.
     Got(Reference),
-    /// To a Put: the reference as it was recorded, and who is to be told.
+    /// To a Put: the reference as it was recorded, and who is to be notified.
     Landed {
         reference: Reference,
         subscribers: Owed,
     },
-    /// To a Remove: the reference as it was, and who is to be told.
+    /// To a Remove: the reference as it was, and who is to be notified.
     Removed {
         reference: Reference,
         subscribers: Owed,

@@ -12,7 +12,7 @@ pub const MOST_VERTICES: usize = 10_000;
 /// The references that the service keeps at one moment.
 pub const MOST_REFERENCES: usize = 4096;
 
-/// The tickets (subscriptions) that the service keeps at one moment; no change has to be told to more.
+/// The tickets (subscriptions) that the service keeps at one moment; no change notifies more.
 pub const MOST_TICKETS: usize = 8192;
 
 /// The last version of a reference.

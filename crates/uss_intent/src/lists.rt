@@ -31,7 +31,7 @@ pub type Ovns = Sequence<Ovn>;
 /// References, as the discovery service shows them.
 pub type References = Sequence<Reference>;
 
-/// Those that are to be told of a change.
+/// Those that are to be notified of a change.
 pub type Owed = Sequence<Subscriber>;
 
 /// The history of the discovery service, oldest first.
@@ -82,7 +82,7 @@ impl<T> Sequence<T> {
         self.items.is_empty()
     }
 
-    /// Puts an item at the end. Want of memory hands it back and changes nothing.
+    /// Puts an item at the end. Running out of memory hands it back and changes nothing.
     pub fn push(&mut self, item: T) -> Result<(), AllocFailed<T>>
         ensures items { self.new ≡ (if is_ok result then self.old ++ item ∷ [] else self.old) }
         ensures back { IfErr result (λ e. e.value ≡ item) }

@@ -149,9 +149,9 @@ pub struct Ticket {
     pub id: TicketId,
     /// The client that made it.
     pub manager: Name,
-    /// Where and when its manager wants to be told of changes.
+    /// Where and when its manager wants to be notified of changes.
     pub area: Volume4,
-    /// Where its manager is told.
+    /// Where its manager is notified.
     pub base: Base,
     /// How often its manager was named a subscriber of it.
     pub index: u64,
@@ -171,7 +171,7 @@ impl Clone for Ticket {
     }
 }
 
-/// Who is to be told of a change, and by which ticket (SubscriberToNotify of the OpenAPI annex of ASTM F3548-21).
+/// Who is to be notified of a change, and by which ticket (SubscriberToNotify of the OpenAPI annex of ASTM F3548-21).
 #[derive(Debug, Drop, PartialEq)]
 pub struct Subscriber {
     /// Where to tell it.

@@ -19,7 +19,7 @@ impl IntentRefusal {
     ghost use Rattle.std.specs.Prelude.{◌≡◌};
     ghost use Rattle.uss_intent.specs.Refusals.{number_of};
 
-    /// The number under which the refusal is printed: 128 to 130, none for want of memory.
+    /// The number under which the refusal is printed: 128 to 130, none for out of memory.
     pub fn number(&self) -> Option<u16>
         ensures { result ≡ number_of self.now }
     {

@@ -9,7 +9,7 @@ use Rattle.uss_disk.specs.Left.{Torn-written}
 use Rattle.uss_journal.specs.Format.{stands_for, used_of}
 use Rattle.uss_journal.specs.Gates.{records_between, Gated, tried_of}
 use Rattle.uss_journal.specs.Journal.{StandsFor, WithOrWithout, staged_of, IsStaged, with_appended}
-use Rattle.uss_journal.specs.Sound.{IsSound, IsSettled}
+use Rattle.uss_journal.specs.Sound.{IsSound, IsSynced}
 use Rattle.uss_journal.specs.Known.{IsAccepted}
 use Rattle.uss_journal.specs.declared.known.Known.{Known}
 use Rattle.uss_journal.proofs.Bytes.{Agree, agree_less, agree_take}
@@ -184,7 +184,7 @@ module _ {D : Type 0} (reads : D → Option (List ℕ)) (may_leave : D → List 
       (record {
         gated = gated_tried known gates gate gated whole entry small;
         whole = λ none. absurd (cc);
-        settled = λ honest none. absurd (cc);
+        synced = λ honest none. absurd (cc);
         left = λ honest image may.
             subst (λ (rs : List (List ℕ)). WithOrWithout rs (tried_of all gate) image) (sym (records_tried known gates gate gated whole entry small))
             (subst (λ (t : Option (List ℕ)). WithOrWithout (records_between known 8 gates) t image) (sym (tried_is known gates gate gated whole entry small)) (left honest image may));
@@ -192,9 +192,9 @@ module _ {D : Type 0} (reads : D → Option (List ℕ)) (may_leave : D → List 
 
   -- that was done
   pub sound_appended : (bytes' gates' : List ℕ) (last' : ℕ) (spent : Option ℕ) → bytes' ≡ set (known ++ staged_of entry) gate 1 → gates' ≡ gates ++ (gate + 5 + length entry) ∷ [] → last' ≡ gate + 5 + length entry
-      → (is_honest disk → IsSettled (set (known ++ staged_of entry) gate 1) (bytes_of (reads disk)) (may_leave disk))
+      → (is_honest disk → IsSynced (set (known ++ staged_of entry) gate 1) (bytes_of (reads disk)) (may_leave disk))
       → IsSound reads may_leave is_honest disk bytes' gates' last' spent
-  sound_appended bytes' gates' last' spent is_bytes is_gates is_last settled =
+  sound_appended bytes' gates' last' spent is_bytes is_gates is_last synced =
       let all = appended known gates gate gated whole entry small in
       let next = more known gates gate gated whole entry small in
       let behind = gates ++ next ∷ [] in
@@ -205,10 +205,10 @@ module _ {D : Type 0} (reads : D → Option (List ℕ)) (may_leave : D → List 
       (record {
         gated = now_gated;
         whole = λ none. length-appended known gates gate gated whole entry small;
-        settled = λ honest none. settled honest;
+        synced = λ honest none. synced honest;
         left = λ honest image may.
-            let is = (settled honest).durable image may in
-            inl (ap stands_for is ∙ stands_front all (bytes_of (reads disk)) behind next now_gated (settled honest).front);
+            let is = (synced honest).durable image may in
+            inl (ap stands_for is ∙ stands_front all (bytes_of (reads disk)) behind next now_gated (synced honest).front);
       })))
 
 -- what a crash at any moment of an append leaves, by the bytes and the gate that were staged
@@ -224,11 +224,11 @@ crash_appended moment left_since old new known gates gate gated whole entry smal
     leaves
 
 -- the file after an append that was done, by what was staged
-pub settled_appended : (known gates : List ℕ) (gate : ℕ) (gated : Gated known gates gate) (whole : length known ≡ gate + 1) (entry : List ℕ) (small : length entry < 2 ^ 32) (file : List ℕ) (front : take (length known) file ≡ known)
+pub synced_appended : (known gates : List ℕ) (gate : ℕ) (gated : Gated known gates gate) (whole : length known ≡ gate + 1) (entry : List ℕ) (small : length entry < 2 ^ 32) (file : List ℕ) (front : take (length known) file ≡ known)
     (staged : List ℕ) (last : ℕ) → staged ≡ known ++ staged_of entry → last ≡ gate
     → (now : List ℕ) (may_leave : List ℕ → Type 0) → now ≡ written last (1 ∷ []) (written (last + 1) (drop (last + 1) staged) file) → Only now may_leave
-    → IsSettled (set (known ++ staged_of entry) gate 1) now may_leave
-settled_appended known gates gate gated whole entry small file front staged last is_staged is_last now may_leave is_now durable =
+    → IsSynced (set (known ++ staged_of entry) gate 1) now may_leave
+synced_appended known gates gate gated whole entry small file front staged last is_staged is_last now may_leave is_now durable =
     let is_opened : now ≡ written gate (1 ∷ []) (written (gate + 1) (staged_of entry) file) =
     is_now
     ∙ ap (λ (n : ℕ). written n (1 ∷ []) (written (n + 1) (drop (n + 1) staged) file)) is_last
@@ -271,11 +271,11 @@ known_records known gates gate gated whole entry small bytes' gates' last' now =
 
 -- what a crash then leaves
 pub stands_known : (known gates : List ℕ) (gate : ℕ) (gated : Gated known gates gate) (whole : length known ≡ gate + 1) (entry : List ℕ) (small : length entry < 2 ^ 32) (bytes' gates' : List ℕ) (last' : ℕ)
-    → NowKnown known gates gate entry bytes' gates' last' → (file : List ℕ) (may_leave : List ℕ → Type 0) → IsSettled (set (known ++ staged_of entry) gate 1) file may_leave
+    → NowKnown known gates gate entry bytes' gates' last' → (file : List ℕ) (may_leave : List ℕ → Type 0) → IsSynced (set (known ++ staged_of entry) gate 1) file may_leave
     → (image : List ℕ) → may_leave image → StandsFor (records_between bytes' 8 gates') image
-stands_known known gates gate gated whole entry small bytes' gates' last' now file may_leave settled image left =
-    ap stands_for (settled.durable image left)
-    ∙ stands_front (set (known ++ staged_of entry) gate 1) file (gates ++ (gate + 5 + length entry) ∷ []) (gate + 5 + length entry) (gated_appended known gates gate gated whole entry small) settled.front
+stands_known known gates gate gated whole entry small bytes' gates' last' now file may_leave synced image left =
+    ap stands_for (synced.durable image left)
+    ∙ stands_front (set (known ++ staged_of entry) gate 1) file (gates ++ (gate + 5 + length entry) ∷ []) (gate + 5 + length entry) (gated_appended known gates gate gated whole entry small) synced.front
     ∙ ap (λ (b : List ℕ). Ok (records_between b 8 (gates ++ (gate + 5 + length entry) ∷ []))) (sym now.is_bytes)
     ∙ ap (λ (gs : List ℕ). Ok (records_between bytes' 8 gs)) (sym now.is_gates)
 

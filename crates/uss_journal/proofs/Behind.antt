@@ -1,4 +1,4 @@
--- The file of a journal behind whose last gate a record was written, and what it stands for.
+-- The file of a journal after whose last gate a record was written, and what it stands for.
 use Rattle.std.proofs.Common.{◌≡◌, ◌≢◌, inl, inr, ⊎_elim, ℕ, ◌+◌, ◌-◌, ◌<◌, ◌≤◌, ◌^◌, List, [], ◌∷◌, ◌++◌, length, get_or, take, drop, arith, refl, sym, ◌∙◌, ap, slice_range, Ok, Some, length-append, append_assoc}
 use Rattle.std.proofs.lemmas.Bool.{cases_eq}
 use Rattle.std.proofs.lemmas.List.{take_at, drop_at, get_or_at, length-take-le}

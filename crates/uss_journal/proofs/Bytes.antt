@@ -34,7 +34,7 @@ module _ (n : ℕ) (a b : List ℕ) (agree : Agree n a b) where
   pub agree_take : take n b ≡ take n a
   agree_take = sym (between_from_start b n) ∙ agree_range 0 n (omega arith) ∙ between_from_start a n
 
--- a front of a file, with the bytes that stand behind it there
+-- a prefix of a file, with the bytes that stand after it there
 pub front_more : (file old new : List ℕ) (have upto : ℕ) → length old ≡ have → have ≤ upto → length new ≡ upto → take have new ≡ old → drop have new ≡ slice_range file have upto → take (length old) file ≡ old
     → take (length new) file ≡ new
 front_more file old new have upto had le size front rest is_front =

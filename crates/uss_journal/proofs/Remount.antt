@@ -8,7 +8,7 @@ use Rattle.uss_disk.specs.Crash.{crash_weaker}
 use Rattle.uss_journal.specs.Format.{mark, new_journal, stands_for}
 use Rattle.uss_journal.specs.Gates.{Gated, records_between, tried_of}
 use Rattle.uss_journal.specs.Journal.{StandsFor, WithOrWithout, mounted}
-use Rattle.uss_journal.specs.Sound.{IsSound, IsSettled, IsReady, Untouched}
+use Rattle.uss_journal.specs.Sound.{IsSound, IsSynced, IsReady, Untouched}
 use Rattle.uss_journal.specs.declared.known.Known.{Known}
 use Rattle.uss_journal.proofs.Stands.{gate_low}
 
@@ -58,12 +58,12 @@ module _ {D : Type 0} (reads : D → Option (List ℕ)) (may_leave : D → List 
       record {
         gated = sound.gated;
         whole = sound.whole;
-        settled = λ honest none.
-            let settled = sound.settled (still honest) none in
+        synced = λ honest none.
+            let synced = sound.synced (still honest) none in
             let now = same (still honest) in
             record {
-              front = ap (λ (r : Option (List ℕ)). take (length known) (bytes_of r)) now.reading ∙ settled.front;
-              durable = λ image may. settled.durable image (now.images image may) ∙ ap bytes_of (sym now.reading);
+              front = ap (λ (r : Option (List ℕ)). take (length known) (bytes_of r)) now.reading ∙ synced.front;
+              durable = λ image may. synced.durable image (now.images image may) ∙ ap bytes_of (sym now.reading);
             };
         left = λ honest image may. sound.left (still honest) image ((same (still honest)).images image may);
       }
@@ -76,10 +76,10 @@ module _ {D : Type 0} (reads : D → Option (List ℕ)) (may_leave : D → List 
       record {
         gated = sound.gated;
         whole = sound.whole;
-        settled = λ honest none.
-            let settled = sound.settled (still honest) none in
-            let same : bytes_of (reads new) ≡ bytes_of (reads old) = file (still honest) ∙ stays_mounted known gates (bytes_of (reads old)) last sound.gated (sound.whole none) settled.front in
-            record { front = ap (λ (l : List ℕ). take (length known) l) same ∙ settled.front; durable = durable (still honest) };
+        synced = λ honest none.
+            let synced = sound.synced (still honest) none in
+            let same : bytes_of (reads new) ≡ bytes_of (reads old) = file (still honest) ∙ stays_mounted known gates (bytes_of (reads old)) last sound.gated (sound.whole none) synced.front in
+            record { front = ap (λ (l : List ℕ). take (length known) l) same ∙ synced.front; durable = durable (still honest) };
         left = λ honest image may.
             same_file (records_between known 8 gates) (tried_of known last) image (bytes_of (reads old)) (ap stands_for (durable (still honest) image may) ∙ kept (still honest))
             (sound.left (still honest) (bytes_of (reads old)) (now (still honest)));
@@ -90,12 +90,12 @@ pub ready : {D : Type 0} (reads : D → Option (List ℕ)) (may_leave : D → Li
     → Gated found.bytes.items found.gates.items found.last → length found.bytes.items ≡ found.last + 1
     → (is_honest old → StandsFor (records_between found.bytes.items 8 found.gates.items) (bytes_of (reads old)))
     → (is_honest old → stands_for (bytes_of (reads new)) ≡ stands_for (bytes_of (reads old)))
-    → (is_honest old → IsSettled found.bytes.items (bytes_of (reads new)) (may_leave new))
+    → (is_honest old → IsSynced found.bytes.items (bytes_of (reads new)) (may_leave new))
     → IsReady reads may_leave is_honest new found
-ready reads may_leave is_honest old new found still gated whole stands kept settled =
+ready reads may_leave is_honest old new found still gated whole stands kept synced =
     record {
       gated = gated;
       whole = whole;
-      settled = λ honest. settled (still honest);
-      left = λ honest image may. ap stands_for ((settled (still honest)).durable image may) ∙ kept (still honest) ∙ stands (still honest);
+      synced = λ honest. synced (still honest);
+      left = λ honest image may. ap stands_for ((synced (still honest)).durable image may) ∙ kept (still honest) ∙ stands (still honest);
     }

@@ -70,7 +70,7 @@ module _ (file gates : List ℕ) (gate : ℕ) (gated : Gated file gates gate) wh
         stands_reached other gates other_marked other_reaches (ap (λ (n : ℕ). get_or other n 0) (sym gated.is_last) ∙ closed)
         ∙ ap (λ (rs : List (List ℕ)). Ok rs) other_records
 
-    -- and one where it is open, and a whole record with a closed gate stands behind it
+    -- and one where it is open, and a whole record with a closed gate stands after it
     module _ (more : ℕ) (is_open : get_or other gate 0 ≢ 0) (is_next : more ≡ next_gate other gate) (low : more < length other) (closed : get_or other more 0 ≡ 0) where
       more_reaches : Reaches other 8 (gates ++ more ∷ [])
       more_reaches =
@@ -93,7 +93,7 @@ first_difference_more bytes i low inside =
     ap (λ (w : List ℕ). first_difference i w (drop i bytes)) (drop_more mark i 0 low)
     ∙ ap (λ (b : List ℕ). first_difference i (get_or mark i 0 ∷ drop (i + 1) mark) b) (drop_more bytes i 0 inside)
 
--- the gates that were followed in the front of a file are gates of the file
+-- the gates that were followed in the start of a file are gates of the file
 pub front_agrees : (a b : List ℕ) → take (length a) b ≡ a → Agree (length a) a b
 front_agrees a b front = record {
   in_first = omega arith;

@@ -22,7 +22,7 @@ module _ (front head entry tail : List ℕ) (gate n : ℕ) (front_length : lengt
       ∙ ap (λ (w : List ℕ). take (gate + 5 + n - (gate + 5)) w) (drop_at (front ++ head) (entry ++ tail) (gate + 5) (omega (arith, length-append front head, front_length, head_length)))
       ∙ take_at entry tail (gate + 5 + n - (gate + 5)) (entry_length ∙ sym size)
 
--- the records behind some bytes
+-- the records after some bytes
 reached_blocks : (records : List (List ℕ)) (front rest : List ℕ) (gate steps : ℕ) → length front ≡ gate → All (λ r. length r < 2 ^ 32) records → length records < steps
     → reached steps (front ++ (blocks records ++ 0 ∷ rest)) gate ≡ Ok records
 reached_blocks records front rest gate zero size small enough = absurd (omega arith)

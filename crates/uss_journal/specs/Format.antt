@@ -1,8 +1,8 @@
 -- What a journal's file stands for: a definition over bytes alone. This project's own format.
 --
 -- The file begins with the eight bytes USSJ0001 and a gate at place 8. A gate is one byte, closed where it is 0 and open
--- otherwise. Behind an open gate stands a record: its length in four bytes, the highest first, its bytes, and then the
--- next gate. The records are those reached through open gates. What stands behind the first closed gate means nothing.
+-- otherwise. After an open gate stands a record: its length in four bytes, the highest first, its bytes, and then the
+-- next gate. The records are those reached through open gates. What stands after the first closed gate means nothing.
 use Rattle.std.specs.Prelude.{ℕ, suc, zero, ◌+◌, List, [], ◌∷◌, ◌++◌, length, slice_index, slice_range, sum_by, Option, Some, None, Result, Ok, Err, if◌then◌else◌, nat_le, nat_lt, ◌==◌}
 use Rattle.std.specs.Int.{w32, from_be_bytes, to_be_bytes}
 
@@ -18,11 +18,11 @@ limit = 536870912
 abbrev pub new_journal : List ℕ
 new_journal = mark ++ 0 ∷ []
 
--- the length of the record behind the gate at this place
+-- the length of the record after the gate at this place
 abbrev pub length_at : (file : List ℕ) (gate : ℕ) → ℕ
 length_at file gate = from_be_bytes w32 (slice_range file (gate + 1) (gate + 5))
 
--- the place of the gate behind that record
+-- the place of the gate after that record
 abbrev pub next_gate : (file : List ℕ) (gate : ℕ) → ℕ
 next_gate file gate = gate + 5 + length_at file gate
 
@@ -62,11 +62,11 @@ stands_for file = if nat_le (length file) 9 then Ok [] else unless_differs (firs
 abbrev pub used_of : List (List ℕ) → ℕ
 used_of records = 9 + sum_by (λ r. 5 + length r) records
 
--- records as they are written one behind the other, each behind its open gate
+-- records as they are written one after the other, each after its open gate
 abbrev pub blocks : List (List ℕ) → List ℕ
 blocks [] = []
 blocks (r ∷ records) = 1 ∷ to_be_bytes w32 (length r) ++ r ++ blocks records
 
--- a file that was written record by record, with a closed gate behind the last, and whatever stands behind that
+-- a file that was written record by record, with a closed gate after the last, and whatever stands after that
 abbrev pub journal_of : (records : List (List ℕ)) (rest : List ℕ) → List ℕ
 journal_of records rest = mark ++ (blocks records ++ 0 ∷ rest)

@@ -24,7 +24,7 @@ pub record Gated (file gates : List ℕ) (gate : ℕ) : Type 0 where
   pub is_last : gate ≡ last_gate 8 gates
   pub closed : slice_index file gate ≡ 0
 
--- the record that was tried behind the last gate, if one was
+-- the record that was tried after the last gate, if one was
 abbrev pub tried_of : (bytes : List ℕ) (gate : ℕ) → Option (List ℕ)
 tried_of bytes gate = if nat_lt (gate + 1) (length bytes) then Some (slice_range bytes (gate + 5) (length bytes - 1)) else None
 

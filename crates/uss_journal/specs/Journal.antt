@@ -22,11 +22,11 @@ StandsFor records file = stands_for file ≡ Ok records
 abbrev pub WithOrWithout : (records : List (List ℕ)) (tried : Option (List ℕ)) (file : List ℕ) → Type 0
 WithOrWithout records tried file = StandsFor records file ⊎ IsSomeAnd tried (λ entry. StandsFor (records ++ entry ∷ []) file)
 
--- what is written behind the last gate for a record: its length, its bytes and a closed gate
+-- what is written after the last gate for a record: its length, its bytes and a closed gate
 abbrev pub staged_of : List ℕ → List ℕ
 staged_of entry = to_be_bytes w32 (length entry) ++ entry ++ 0 ∷ []
 
--- what a crash may leave of a file while bytes are written behind a gate, synced, and the gate is then opened and synced
+-- what a crash may leave of a file while bytes are written after a gate, synced, and the gate is then opened and synced
 abbrev pub IsStaged : (gate : ℕ) (staged file image : List ℕ) → Type 0
 IsStaged gate staged file image = Torn (gate + 1) (length staged) file image ⊎ Torn gate 1 (written (gate + 1) staged file) image
 

@@ -3,7 +3,7 @@ use Rattle.std.specs.Prelude.{◌≡◌, ◌-◌, ℕ, List, [], ◌∷◌, ◌+
 use Rattle.uss_journal.specs.Gates.{records_between}
 use Rattle.uss_journal.specs.declared.known.Known.{Known}
 
--- a record that was staged is known: its gate is open, and the closed gate behind it is the last
+-- a record that was staged is known: its gate is open, and the closed gate after it is the last
 pub record IsAccepted (old new : Known) : Type 0 where
   pub bytes : new.bytes.items ≡ slice_set old.bytes.items old.last 1
   pub gates : new.gates.items ≡ old.gates.items ++ (vec_len old.bytes - 1) ∷ []

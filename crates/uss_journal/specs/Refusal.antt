@@ -13,7 +13,7 @@ pub record Appended {D : Type 0} (old : JournalView D) (entry : List ℕ) (new :
   pub fits : used_of old.records + 5 + length entry ≤ limit
   pub last : new.records ≡ old.records ++ entry ∷ []
   pub reopened : new.spent ≡ None
-  pub settled : new.tried ≡ None
+  pub untried : new.tried ≡ None
   pub forgotten : new.found ≡ None
 
 -- A fault of the disk within an append: its count of faults rose, the records are those that were known, and the journal
@@ -53,7 +53,7 @@ pub record Adopted {D : Type 0} (old : JournalView D) (found : List (List ℕ)) 
   pub disk : new.disk ≡ old.disk
   pub records : new.records ≡ found
   pub reopened : new.spent ≡ None
-  pub settled : new.tried ≡ None
+  pub untried : new.tried ≡ None
   pub forgotten : new.found ≡ None
 
 -- A fault of the disk within a remount: its count of faults rose, and the journal is spent.

@@ -6,7 +6,7 @@ use Rattle.uss_journal.specs.Journal.{StandsFor, WithOrWithout}
 use Rattle.uss_journal.specs.declared.known.Known.{Known}
 
 -- all of the file is on the medium, and it begins with the bytes that are known
-pub record IsSettled (known file : List ℕ) (may_leave : List ℕ → Type 0) : Type 0 where
+pub record IsSynced (known file : List ℕ) (may_leave : List ℕ → Type 0) : Type 0 where
   pub front : take (length known) file ≡ known
   pub durable : Only file may_leave
 
@@ -15,20 +15,20 @@ abbrev pub AllShort : (may_leave : List ℕ → Type 0) → Type 0
 AllShort may_leave = (image : List ℕ) → may_leave image → length image ≤ 9
 
 -- The bytes that a journal knows lead by open gates to the last one, which is closed. While it isn't spent nothing stands
--- behind that, and on an honest disk all of its file is on the medium. Whatever a crash leaves of an honest disk stands for
+-- after that, and on an honest disk all of its file is on the medium. Whatever a crash leaves of an honest disk stands for
 -- the known records, or for these with the one that was tried.
 pub record IsSound {D : Type 0} (reads : D → Option (List ℕ)) (may_leave : D → List ℕ → Type 0) (is_honest : D → Type 0) (disk : D) (known gates : List ℕ) (last : ℕ) (spent : Option ℕ) : Type 0 where
   pub gated : Gated known gates last
   pub whole : spent ≡ None → length known ≡ last + 1
-  pub settled : is_honest disk → spent ≡ None → IsSettled known (bytes_of (reads disk)) (may_leave disk)
+  pub synced : is_honest disk → spent ≡ None → IsSynced known (bytes_of (reads disk)) (may_leave disk)
   pub left : is_honest disk → (image : List ℕ) → may_leave disk image → WithOrWithout (records_between known 8 gates) (tried_of known last) image
 
--- What was read of the file again is as a journal that was just mounted has it: nothing stands behind the last gate, which
+-- What was read of the file again is as a journal that was just mounted has it: nothing stands after the last gate, which
 -- is closed, and on an honest disk all of the file is on the medium.
 pub record IsReady {D : Type 0} (reads : D → Option (List ℕ)) (may_leave : D → List ℕ → Type 0) (is_honest : D → Type 0) (disk : D) (known : Known) : Type 0 where
   pub gated : Gated known.bytes.items known.gates.items known.last
   pub whole : length known.bytes.items ≡ known.last + 1
-  pub settled : is_honest disk → IsSettled known.bytes.items (bytes_of (reads disk)) (may_leave disk)
+  pub synced : is_honest disk → IsSynced known.bytes.items (bytes_of (reads disk)) (may_leave disk)
   pub left : is_honest disk → (image : List ℕ) → may_leave disk image → StandsFor (records_between known.bytes.items 8 known.gates.items) image
 
 -- Calls that only looked at the disk: it is honest exactly where it was, its count of faults hasn't fallen, and on an
@@ -38,7 +38,7 @@ pub record OnlyLooked {D : Type 0} (reads : D → Option (List ℕ)) (may_leave 
   pub count : fault_count old ≤ fault_count new
   pub same : is_honest old → SameMeaning reads may_leave moment left_since old new
 
--- these bytes are the front of the file
+-- these bytes are the start of the file
 abbrev pub IsFront : (bytes file : List ℕ) → Type 0
 IsFront bytes file = take (length bytes) file ≡ bytes
 

@@ -16,10 +16,10 @@ pub(crate) const NEW_JOURNAL: [u8; 9] = *b"USSJ0001\0";
 
 #[derive(Drop)]
 pub(crate) struct Known {
-    // From the file's first byte up to and with the last gate, which is closed. Behind it stands a record that was
+    // From the file's first byte up to and with the last gate, which is closed. After it stands a record that was
     // tried and may or may not be in the file, if one was.
     pub(crate) bytes: Vec<u8>,
-    // The places of the gates behind the first one: one for each record.
+    // The places of the gates after the first one: one for each record.
     pub(crate) gates: Vec<usize>,
     // The place of the last gate.
     pub(crate) last: usize,
@@ -79,7 +79,7 @@ impl Known {
         }
     }
 
-    /// Puts a record behind the last gate, with a closed gate behind it, and makes room for the gate's place.
+    /// Puts a record after the last gate, with a closed gate after it, and makes room for the gate's place.
     pub(crate) fn stage(&mut self, entry: &[u8]) -> Result<(), AllocError>
         requires { length entry.now < 2 ^ 32 }
         ensures gates { self.new.gates.items ≡ self.old.gates.items }
@@ -97,7 +97,7 @@ impl Known {
         staged
     }
 
-    /// Opens the last gate, so that the record behind it is known.
+    /// Opens the last gate, so that the record after it is known.
     pub(crate) fn accept(&mut self)
         requires behind { self.old.last + 1 < vec_len self.old.bytes }
         requires room { vec_len self.old.gates < vec_capacity self.old.gates }
@@ -110,7 +110,7 @@ impl Known {
     }
 }
 
-// The bytes with a record behind them. Where there is no room, a part of it may stand there.
+// The bytes with a record after them. Where there is no room, a part of it may stand there.
 fn put_staged(bytes: &mut Vec<u8>, entry: &[u8]) -> Result<(), AllocError>
     requires { length entry.now < 2 ^ 32 }
     ensures ok { OnOk result (bytes.new.items ≡ bytes.old.items ++ staged_of entry.now) }

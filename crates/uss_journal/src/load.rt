@@ -6,7 +6,7 @@ ghost use Rattle.uss_journal.specs.Format.{stands_for, new_journal};
 ghost use Rattle.uss_journal.specs.Gates.{Gated, records_between};
 ghost use Rattle.uss_journal.specs.Journal.{StandsFor, mounted};
 ghost use Rattle.uss_journal.specs.Refusal.{MountRefused, RefusedBy, UnlessFault};
-ghost use Rattle.uss_journal.specs.Sound.{IsSettled, AllShort, Untouched};
+ghost use Rattle.uss_journal.specs.Sound.{IsSynced, AllShort, Untouched};
 
 use crate::JournalRefusal;
 use crate::known::{Known, NEW_JOURNAL};
@@ -35,7 +35,7 @@ pub(crate) fn load<D: Disk>(
     ensures file { D.is_honest disk.old → OnOk result (bytes_of (D.reads disk.new) ≡ mounted (bytes_of (D.reads disk.old))) }
     ensures kept { D.is_honest disk.old → stands_for (bytes_of (D.reads disk.new)) ≡ stands_for (bytes_of (D.reads disk.old)) }
     ensures untouched { D.is_honest disk.old → IfErr result (λ r. UnlessFault r (Untouched D.reads D.may_leave disk.old disk.new)) }
-    ensures settled { D.is_honest disk.old → IfOk result (λ k. IsSettled k.bytes.items (bytes_of (D.reads disk.new)) (D.may_leave disk.new)) }
+    ensures synced { D.is_honest disk.old → IfOk result (λ k. IsSynced k.bytes.items (bytes_of (D.reads disk.new)) (D.may_leave disk.new)) }
     ensures crash { D.is_honest disk.old → CrashLeaves D.moment D.left_since
         (λ image. D.may_leave disk.old image ⊎ (stands_for image ≡ stands_for (bytes_of (D.reads disk.old)))) disk.old disk.new }
 {
@@ -59,7 +59,7 @@ fn make<D: Disk>(alloc: Global, disk: &mut D, len: u64) -> Result<Known, Journal
     ensures honest { D.is_honest disk.new ↔ D.is_honest disk.old }
     ensures file { D.is_honest disk.old → OnOk result (bytes_of (D.reads disk.new) ≡ new_journal) }
     ensures made { IfOk result (λ k. (k.bytes.items ≡ new_journal) × (k.gates.items ≡ []) × (k.last ≡ 8)) }
-    ensures settled { D.is_honest disk.old → IfOk result (λ k. IsSettled k.bytes.items (bytes_of (D.reads disk.new)) (D.may_leave disk.new)) }
+    ensures synced { D.is_honest disk.old → IfOk result (λ k. IsSynced k.bytes.items (bytes_of (D.reads disk.new)) (D.may_leave disk.new)) }
     ensures crash { D.is_honest disk.old → AllShort (D.may_leave disk.old) → CrashLeaves D.moment D.left_since (λ image. length image ≤ 9) disk.old disk.new }
     ensures short { D.is_honest disk.old → AllShort (D.may_leave disk.old) → length (bytes_of (D.reads disk.new)) ≤ 9 }
     ensures refused_by { (file : List ℕ) → IfErr result (RefusedBy file) }

@@ -47,7 +47,7 @@ impl<T: Drop> From<AllocFailed<T>> for JournalRefusal {
 /// A journal couldn't be mounted: why, and the disk that was given.
 #[derive(Debug, Drop)]
 pub struct MountRefusal<D> {
-    /// Why: 141, 143 or want of memory.
+    /// Why: 141, 143 or out of memory.
     pub refusal: JournalRefusal,
     /// The disk.
     pub back: D,

@@ -101,7 +101,7 @@ fn step<D: Disk>(disk: &mut D, known: &mut Known, len: u64) -> Result<(), Journa
     }
 }
 
-// The gate behind the record whose gate this is, which is read up to it.
+// The gate after the record whose gate this is, which is read up to it.
 fn next<D: Disk>(
     disk: &mut D,
     bytes: &mut Vec<u8>,

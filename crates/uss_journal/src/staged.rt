@@ -1,4 +1,4 @@
-// Bytes written behind a gate, which is opened once they are on the medium.
+// Bytes written after a gate, which is opened once they are on the medium.
 ghost use Rattle.std.specs.Prelude.{◌≡◌, ◌↔◌, ◌+◌, ◌<◌, ◌≤◌, ◌^◌, ◌∷◌, [], length, drop, vec_len, vec_capacity, OnOk, OnErr};
 ghost use Rattle.uss_cause.specs.Cause.{Counts};
 ghost use Rattle.uss_disk.specs.Disk.{bytes_of, written, Torn, Only, CrashLeaves};
@@ -26,7 +26,7 @@ pub(crate) fn write_through<D: Disk>(disk: &mut D, at: u64, bytes: &[u8]) -> Res
     disk.sync()
 }
 
-/// Writes the bytes behind the gate at this place, syncs, opens the gate, and syncs.
+/// Writes the bytes after the gate at this place, syncs, opens the gate, and syncs.
 pub(crate) fn write_behind<D: Disk>(disk: &mut D, gate: u64, staged: &[u8]) -> Result<(), DiskFault>
     requires fits { gate + 1 < 2 ^ 64 }
     requires place { D.is_honest disk.old → gate + 1 ≤ length (bytes_of (D.reads disk.old)) }

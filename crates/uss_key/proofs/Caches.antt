@@ -1,4 +1,4 @@
--- The newest pair beside the settled ones.
+-- The newest pair beside the earlier ones.
 use Rattle.std.proofs.Common.{◌≡◌, ℕ, ◌+◌, ◌<◌, ◌≤◌, true, false, not, cond, List, [], ◌∷◌, ◌++◌, length, Option, Some, None, is_none, refl, sym, ◌∙◌, arith, find, length-append}
 use Rattle.std.specs.List.{list_any}
 use Rattle.std.specs.Option.{option_to_list, option_or}
@@ -15,14 +15,14 @@ use Rattle.uss_key.proofs.Stores.{few, apart}
 is_of_only : (flight : ℕ) (q : OperationalIntent) → list_any (is_of flight) (q ∷ []) ≡ true → is_of flight q ≡ true
 is_of_only flight q h = grind (arith, nat_tests)
 
-none_settled : (flight : ℕ) (ps : List OperationalIntent) (q : OperationalIntent) → may_be_kept (ps ++ q ∷ []) ≡ true → is_of flight q ≡ true → list_any (is_of flight) ps ≡ false
-none_settled flight ps q kept is = rw (same_flight flight q is) at (last_alone ps q (apart (ps ++ q ∷ []) kept)).0
+none_earlier : (flight : ℕ) (ps : List OperationalIntent) (q : OperationalIntent) → may_be_kept (ps ++ q ∷ []) ≡ true → is_of flight q ≡ true → list_any (is_of flight) ps ≡ false
+none_earlier flight ps q kept is = rw (same_flight flight q is) at (last_alone ps q (apart (ps ++ q ∷ []) kept)).0
 
 pub newest_found : (flight : ℕ) (ps : List OperationalIntent) (o : Option OperationalIntent) → may_be_kept (ps ++ option_to_list o) ≡ true → list_any (is_of flight) (option_to_list o) ≡ true → o ≡ find (is_of flight) (ps ++ option_to_list o)
 newest_found flight ps None kept there = absurd (cc)
 newest_found flight ps (Some q) kept there =
     let is : is_of flight q ≡ true = is_of_only flight q there in
-    let none : list_any (is_of flight) ps ≡ false = none_settled flight ps q kept is in
+    let none : list_any (is_of flight) ps ≡ false = none_earlier flight ps q kept is in
     let absent : find (is_of flight) ps ≡ None = none_from_no_some (find (is_of flight) ps) (sym (any_is_found (is_of flight) ps) ∙ none) in
     sym (find-append (is_of flight) ps (q ∷ []) ∙ rw (absent, is) refl)
 
@@ -30,8 +30,8 @@ pub or_none : {X : Type 0} (o : Option X) → option_or o None ≡ o
 or_none None = refl
 or_none (Some x) = refl
 
-pub settled_found : (flight : ℕ) (ps : List OperationalIntent) (o : Option OperationalIntent) → list_any (is_of flight) (option_to_list o) ≡ false → find (is_of flight) ps ≡ find (is_of flight) (ps ++ option_to_list o)
-settled_found flight ps o none =
+pub earlier_found : (flight : ℕ) (ps : List OperationalIntent) (o : Option OperationalIntent) → list_any (is_of flight) (option_to_list o) ≡ false → find (is_of flight) ps ≡ find (is_of flight) (ps ++ option_to_list o)
+earlier_found flight ps o none =
     let absent : find (is_of flight) (option_to_list o) ≡ None = none_from_no_some (find (is_of flight) (option_to_list o)) (sym (any_is_found (is_of flight) (option_to_list o)) ∙ none) in
     sym (find-append (is_of flight) ps (option_to_list o) ∙ rw absent (or_none (find (is_of flight) ps)))
 
@@ -39,16 +39,16 @@ pub newest_out : (flight : ℕ) (ps : List OperationalIntent) (o : Option Operat
 newest_out flight ps None kept there = absurd (cc)
 newest_out flight ps (Some q) kept there =
     let is : is_of flight q ≡ true = is_of_only flight q there in
-    let none : list_any (is_of flight) ps ≡ false = none_settled flight ps q kept is in
+    let none : list_any (is_of flight) ps ≡ false = none_earlier flight ps q kept is in
     let left : without flight ps ≡ ps = without_absent flight ps none in
     sym (filter-append (λ p. not (is_of flight p)) ps (q ∷ []) ∙ rw (left, is) refl)
 
-pub settled_out : (flight : ℕ) (ps : List OperationalIntent) (o : Option OperationalIntent) → list_any (is_of flight) (option_to_list o) ≡ false → without flight ps ++ option_to_list o ≡ without flight (ps ++ option_to_list o)
-settled_out flight ps o none =
+pub earlier_out : (flight : ℕ) (ps : List OperationalIntent) (o : Option OperationalIntent) → list_any (is_of flight) (option_to_list o) ≡ false → without flight ps ++ option_to_list o ≡ without flight (ps ++ option_to_list o)
+earlier_out flight ps o none =
     let left : without flight (option_to_list o) ≡ option_to_list o = without_absent flight (option_to_list o) none in
     sym (filter-append (λ p. not (is_of flight p)) ps (option_to_list o) ∙ rw left refl)
 
--- the newest may be settled
+-- the newest may be earlier
 pub may_settle : (ps : List OperationalIntent) (q : OperationalIntent) → may_be_kept (ps ++ q ∷ []) ≡ true → (find (is_of q.reference.flight) ps ≡ None) × (length ps < 4096)
 may_settle ps q kept =
     let alone : list_any (is_of q.reference.flight) ps ≡ false = (last_alone ps q (apart (ps ++ q ∷ []) kept)).0 in

@@ -68,8 +68,8 @@ any_or : (b : Bool) → (b || true) ≡ true
 any_or true = refl
 any_or false = refl
 
-pub forgotten_of_settled : (flight : ℕ) (ps qs : List OperationalIntent) → list_any (is_of flight) ps ≡ true → None ≡ forgotten_for flight (ps ++ qs)
-forgotten_of_settled flight ps qs there =
+pub forgotten_of_earlier : (flight : ℕ) (ps qs : List OperationalIntent) → list_any (is_of flight) ps ≡ true → None ≡ forgotten_for flight (ps ++ qs)
+forgotten_of_earlier flight ps qs there =
     let any : list_any (is_of flight) (ps ++ qs) ≡ true = list_any-append (is_of flight) ps qs ∙ rw there refl in
     sym (forgotten_of_known flight (ps ++ qs) any)
 

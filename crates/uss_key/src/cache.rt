@@ -17,7 +17,7 @@ use uss_intent::{FlightId, MOST_REFERENCES};
 #[derive(Drop)]
 pub struct Cache {
     /// All but the one that was heard last.
-    settled: Store,
+    earlier: Store,
     /// The one that was heard last, until there is room to settle it.
     newest: Option<Pair>,
 }
@@ -29,9 +29,9 @@ impl Model for Cache {
 
     ghost Value = { Kept };
 
-    ghost view = { λ c. record { pairs = c.settled ++ option_to_list c.newest; spare = if is_none c.newest then 1 else 0 } };
+    ghost view = { λ c. record { pairs = c.earlier ++ option_to_list c.newest; spare = if is_none c.newest then 1 else 0 } };
 
-    ghost invariant = { λ c. IsTrue (may_be_kept (c.settled ++ option_to_list c.newest)) };
+    ghost invariant = { λ c. IsTrue (may_be_kept (c.earlier ++ option_to_list c.newest)) };
 }
 
 impl Cache {
@@ -42,7 +42,7 @@ impl Cache {
         ensures room { result.spare ≡ 1 }
     {
         Cache {
-            settled: Store::new(alloc),
+            earlier: Store::new(alloc),
             newest: None,
         }
     }
@@ -59,7 +59,7 @@ impl Cache {
         let Some(pair) = self.newest.take() else {
             return Ok(());
         };
-        match self.settled.push(pair) {
+        match self.earlier.push(pair) {
             Ok(()) => Ok(()),
             Err(pair) => {
                 self.newest = Some(pair);
@@ -76,7 +76,7 @@ impl Cache {
         if is_of(&self.newest, flight) {
             return self.newest.as_ref();
         }
-        self.settled.get(flight)
+        self.earlier.get(flight)
     }
 
     fn keeps_newer(&self, p: &Pair) -> bool
@@ -93,7 +93,7 @@ impl Cache {
         requires { 1 ≤ self.old.spare }
         ensures { self.new.pairs ≡ room_for p.reference.flight self.old.pairs ++ p ∷ [] }
     {
-        self.settled.make_room(p.reference().flight);
+        self.earlier.make_room(p.reference().flight);
         self.newest = Some(p);
     }
 
@@ -128,7 +128,7 @@ impl Cache {
             self.newest = None;
             return;
         }
-        let _ = self.settled.remove(flight);
+        let _ = self.earlier.remove(flight);
     }
 
     /// The flight whose pair is forgotten where a pair of this flight is heard: that of the pair heard longest ago, where the cache is
@@ -139,13 +139,13 @@ impl Cache {
         ensures none { (p : OperationalIntent) (other : ℕ) → p.reference.flight ≡ flight → other ≢ flight
             → IfNone result (find (is_of other) (after_news self.now.pairs (Heard p)) ≡ find (is_of other) self.now.pairs) }
     {
-        if is_of(&self.newest, flight) || self.settled.has(flight) {
+        if is_of(&self.newest, flight) || self.earlier.has(flight) {
             return None;
         }
-        if self.settled.len() + count(&self.newest) < MOST_REFERENCES {
+        if self.earlier.len() + count(&self.newest) < MOST_REFERENCES {
             return None;
         }
-        self.settled.first_flight()
+        self.earlier.first_flight()
     }
 }
 

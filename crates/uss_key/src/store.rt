@@ -118,7 +118,7 @@ impl Store {
         }
     }
 
-    /// Puts a pair at the end. For want of memory, and once 2^64 - 1 numbers were given, it is handed back and nothing changes.
+    /// Puts a pair at the end. Out of memory, and once 2^64 - 1 numbers were given, it is handed back and nothing changes.
     pub(crate) fn push(&mut self, pair: Pair) -> Result<(), Pair>
         requires new { find (is_of pair.reference.flight) self.old ≡ None }
         requires room { length self.old < most_references }

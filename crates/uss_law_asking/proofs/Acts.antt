@@ -31,8 +31,11 @@ use Rattle.uss_law_dss.specs.Lists.{Has}
 use Rattle.uss_law_dss.specs.Fits.{fits}
 use Rattle.uss_law_dss.proofs.Lists.{find_has}
 use Rattle.uss_law_dss.proofs.Tests.{equal_number, left_false, both, not_true, not_both, less_is, some_same}
-use Rattle.uss_law_book.specs.Lists.{Opening, Trial, Closing, trials}
-use Rattle.uss_law_book.specs.Readings.{is_held, is_done, is_closed, trials_of, decision_of, base_of, rounds_of}
+use Rattle.uss_event.specs.declared.entries.Opening.{Opening}
+use Rattle.uss_event.specs.declared.entries.Trial.{Trial}
+use Rattle.uss_event.specs.declared.entries.Closing.{Closing}
+use Rattle.uss_law_book.specs.Lists.{trials}
+use Rattle.uss_law_book.specs.Contents.{is_held, is_done, is_closed, trials_of, decision_of, current_ovn_of, rounds_of}
 use Rattle.uss_law_book.proofs.Entries.{opening_kept, closed_by_either}
 use Rattle.uss_law_duty.specs.Answers.{flight_of}
 use Rattle.uss_law_duty.specs.Sayings.{others}
@@ -64,7 +67,7 @@ pub pending_leaves_open : (s : Standing) (o : Opening) (alternative : ℕ) (key 
 unfolding is_held is_done
 pending_leaves_open s o alternative key = refl
 
-decision_leaves_open : (job : ℕ) (end : Ending) → is_closed job (Enters.Deciding job end ∷ []) ≡ false
+decision_leaves_open : (job : ℕ) (end : Ending) → is_closed job (Enters.Deciding (record { job = job; end = end }) ∷ []) ≡ false
 unfolding is_held is_done
 decision_leaves_open job end = refl
 
@@ -79,7 +82,7 @@ same_trials job book = trials_either job book (Enters.TicketOpen job ∷ []) ∙
 one_more : (s : Standing) (o : Opening) (alternative : ℕ) (key : List (List ℕ)) → length (trials_of o.job (s.book ++ pending s o alternative key ∷ [])) ≡ length (trials_of o.job s.book) + 1
 unfolding trials_of
 one_more s o alternative key =
-    let t : Trial = record { job = o.job; tag = length (trials s.book) + 1; alternative = alternative; previous = base_of o.ask.flight s.book; key = key } in
+    let t : Trial = record { job = o.job; tag = length (trials s.book) + 1; alternative = alternative; previous = current_ovn_of o.ask.flight s.book; key = key } in
     let a : trials_of o.job (pending s o alternative key ∷ []) ≡ t ∷ [] = rw (equal_number o.job o.job refl) refl in
     ap length (trials_either o.job s.book (pending s o alternative key ∷ []) ∙ ap (λ (l : List Trial). trials_of o.job s.book ++ l) a) ∙ length-append (trials_of o.job s.book) (t ∷ [])
 
@@ -117,7 +120,7 @@ attempts n s o alternative key b u f =
 
 decides : (n : ℕ) (s : Standing) (o : Opening) (end : Ending) (b : ℕ) → IsOpenJob s.book o → 3 ≤ b → IsWithin n s o (deciding s o end) b
 decides n s o end b u l =
-    asks_after n s (Enters.Deciding o.job end) o Waits.TicketRemove 2 b (still s o (Enters.Deciding o.job end) u (decision_leaves_open o.job end)) (omega arith) (omega (arith, l))
+    asks_after n s (Enters.Deciding (record { job = o.job; end = end })) o Waits.TicketRemove 2 b (still s o (Enters.Deciding (record { job = o.job; end = end })) u (decision_leaves_open o.job end)) (omega arith) (omega (arith, l))
 
 pub gives_up : (n : ℕ) (s : Standing) (o : Opening) (end : Ending) (b : ℕ) → IsOpenJob s.book o → 3 ≤ b → IsWithin n s o (giving_up s o end) b
 gives_up n s o end b u l = go (trials_of o.job s.book)

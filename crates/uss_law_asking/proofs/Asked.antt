@@ -11,8 +11,9 @@ use Rattle.uss_event.specs.declared.entries.Entry.TheVariants as Enters
 use Rattle.uss_event.specs.declared.calls.Outgoing.{Outgoing}
 use Rattle.uss_event.specs.declared.calls.Outgoing.TheVariants as Goes
 use Rattle.uss_law_dss.proofs.Tests.{equal_number, left_false, not_both, not_less, less_is, some_same}
-use Rattle.uss_law_book.specs.Lists.{Opening, openings}
-use Rattle.uss_law_book.specs.Readings.{is_put, opening_of, is_closed, is_ticket_open, decision_of, trials_of, rounds_of}
+use Rattle.uss_event.specs.declared.entries.Opening.{Opening}
+use Rattle.uss_law_book.specs.Lists.{openings}
+use Rattle.uss_law_book.specs.Contents.{is_put, opening_of, is_closed, is_ticket_open, decision_of, trials_of, rounds_of}
 use Rattle.uss_law_book.specs.Orderly.{IsOrderly}
 use Rattle.uss_law_book.proofs.Entries.{openings_append, closed_by_either}
 use Rattle.uss_law_book.proofs.Kept.{opening_has}
@@ -139,11 +140,11 @@ resumes n s o u k firm fit few = go (awaited_of o.job s.values) refl
 
 -- a new job
 
-pub new_opened : (book : List Entry) (o : Opening) → IsOrderly book → o.job ≡ length (openings book) + 1 → opening_of o.job (book ++ Enters.Opened o.job o.moment o.ask ∷ []) ≡ Some o
+pub new_opened : (book : List Entry) (o : Opening) → IsOrderly book → o.job ≡ length (openings book) + 1 → opening_of o.job (book ++ Enters.Opened o ∷ []) ≡ Some o
 unfolding opening_of
 new_opened book o s n =
     let none : find (λ (p : Opening). p.job == o.job) (openings book) ≡ None = go (opening_of o.job book) refl in
-    ap (λ (l : List Opening). find (λ (p : Opening). p.job == o.job) l) (openings_append book (Enters.Opened o.job o.moment o.ask ∷ []))
+    ap (λ (l : List Opening). find (λ (p : Opening). p.job == o.job) l) (openings_append book (Enters.Opened o ∷ []))
     ∙ find-append (λ (p : Opening). p.job == o.job) (openings book) (o ∷ [])
     ∙ ap (λ x. option_or x (find (λ (p : Opening). p.job == o.job) (o ∷ []))) none
     ∙ rw (equal_number o.job o.job refl) refl

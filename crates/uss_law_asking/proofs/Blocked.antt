@@ -29,8 +29,10 @@ use Rattle.uss_plan.specs.declared.choice.Choice.{Choice}
 use Rattle.uss_plan.specs.declared.choice.Choice.TheVariants.{Chosen, Blocked}
 use Rattle.uss_law_dss.specs.Fits.{fits}
 use Rattle.uss_law_dss.proofs.Tests.{some_same}
-use Rattle.uss_law_book.specs.Lists.{Opening, Trial, Closing}
-use Rattle.uss_law_book.specs.Readings.{trials_of, decision_of}
+use Rattle.uss_event.specs.declared.entries.Opening.{Opening}
+use Rattle.uss_event.specs.declared.entries.Trial.{Trial}
+use Rattle.uss_event.specs.declared.entries.Closing.{Closing}
+use Rattle.uss_law_book.specs.Contents.{trials_of, decision_of}
 use Rattle.uss_law_duty.specs.Answers.{flight_of}
 use Rattle.uss_law_duty.specs.Sayings.{others}
 use Rattle.uss_law_duty.specs.Entered.{shown_tag}
@@ -53,8 +55,8 @@ is_conflict (Ends.Conflict flight manager rule) = true
 is_conflict _ = false
 
 abbrev pub is_in_conflict : Option Entry → Bool
-is_in_conflict (Some (Enters.Deciding job end)) = is_conflict end
-is_in_conflict (Some (Enters.Done job end)) = is_conflict end
+is_in_conflict (Some (Enters.Deciding d)) = is_conflict d.end
+is_in_conflict (Some (Enters.Done d)) = is_conflict d.end
 is_in_conflict _ = false
 
 abbrev pub IsFree : Turn → Type 0
@@ -66,11 +68,11 @@ pub record ByChoice (s : Standing) (o : Opening) (t : Turn) : Type 0 where
   pub manager : List ℕ
   pub rule : Verdict
   pub blocked : IsBlockedBy s o flight manager rule
-  pub enters : (t.entry ≡ Some (Enters.Deciding o.job (Ends.Conflict flight manager rule))) ⊎ (t.entry ≡ Some (Enters.Done o.job (Ends.Conflict flight manager rule)))
+  pub enters : (t.entry ≡ Some (Enters.Deciding (record { job = o.job; end = Ends.Conflict flight manager rule }))) ⊎ (t.entry ≡ Some (Enters.Done (record { job = o.job; end = Ends.Conflict flight manager rule })))
 
 -- it ends as it decided
 abbrev pub ByDecision : Standing → Opening → Turn → Type 0
-ByDecision s o t = (d : Closing) × (decision_of o.job s.book ≡ Some d) × (t.entry ≡ Some (Enters.Done o.job d.end))
+ByDecision s o t = (d : Closing) × (decision_of o.job s.book ≡ Some d) × (t.entry ≡ Some (Enters.Done (record { job = o.job; end = d.end })))
 
 pub data Conflicts (s : Standing) (o : Opening) (t : Turn) : Type 0 where
   Free : (f : IsFree t) → Conflicts s o t

@@ -19,8 +19,8 @@ use Rattle.uss_event.specs.declared.calls.Outgoing.TheVariants as Goes
 use Rattle.uss_law_dss.specs.Fits.{fits}
 use Rattle.uss_law_dss.proofs.Lists.{length-filter_le}
 use Rattle.uss_law_dss.proofs.Tests.{equal_number, equal_bytes, and_true, some_same}
-use Rattle.uss_law_book.specs.Lists.{Opening}
-use Rattle.uss_law_book.specs.Readings.{opening_of, trials_of, rounds_of}
+use Rattle.uss_event.specs.declared.entries.Opening.{Opening}
+use Rattle.uss_law_book.specs.Contents.{opening_of, trials_of, rounds_of}
 use Rattle.uss_law_duty.specs.Answers.{flight_of, job_of_call}
 use Rattle.uss_law_duty.specs.Sayings.{others}
 use Rattle.uss_law_supplier.specs.declared.duties.Awaited.{Awaited}
@@ -114,7 +114,7 @@ hears n s o call b c reply w = record { unfinished = w.unfinished; waits = w.wai
 
 peer_within : (n : ℕ) (s : Standing) (o : Opening) (call : PeerCall) (reply : PeerReply) (b : ℕ) → IsWaiting n s o (Goes.Peer call) b → peer_fits call reply ≡ true
     → IsWithin n s o (replied_to_peer s call reply (opening_of (job_of_call call) s.book)) b
-peer_within n s o (Calls.Notify job place base note) reply b w fit = let e = w.is in cc
+peer_within n s o (Calls.Notify job index base note) reply b w fit = let e = w.is in cc
 peer_within n s o (Calls.Details job flight manager base) reply b w fit =
     let call = Calls.Details job flight manager base in
     let opened : opening_of job s.book ≡ Some o = ap (λ j. opening_of j s.book) w.its_job ∙ w.unfinished.opened in

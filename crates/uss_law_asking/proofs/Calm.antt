@@ -17,9 +17,9 @@ use Rattle.uss_law_dss.proofs.EachFits.{step_fits}
 use Rattle.uss_law_dss.proofs.EachOrderly.{step_orderly}
 use Rattle.uss_law_dss.proofs.Lists.{find_has}
 use Rattle.uss_law_dss.proofs.Tests.{unequal_number}
-use Rattle.uss_law_book.specs.Lists.{Opening}
+use Rattle.uss_event.specs.declared.entries.Opening.{Opening}
 use Rattle.uss_law_book.specs.Legal.{IsAfter}
-use Rattle.uss_law_book.specs.Readings.{last_of}
+use Rattle.uss_law_book.specs.Contents.{last_of}
 use Rattle.uss_law_duty.specs.Duties.{clamped}
 use Rattle.uss_event.specs.Heard.{is_of}
 use Rattle.uss_law_supplier.specs.Turns.{Standing}
@@ -70,4 +70,4 @@ their_replies_fit client served service (OfDss call reply ∷ xs) orderly by =
     (subst (λ (r : DssReply). fits call.ask r ≡ true) (sym by.0) (step_fits service client call.ask orderly), their_replies_fit client served (service_step service client call.ask).1 xs (step_orderly service client call.ask orderly) by.1)
 their_replies_fit client served service (OfPeer (Calls.Details job flight manager base) reply ∷ xs) orderly by =
     (subst (λ (r : PeerReply). peer_fits (Calls.Details job flight manager base) r ≡ true) (sym by.0) (served_fits job flight manager base served), their_replies_fit client served service xs orderly by.1)
-their_replies_fit client served service (OfPeer (Calls.Notify job place base note) reply ∷ xs) orderly by = absurd by
+their_replies_fit client served service (OfPeer (Calls.Notify job index base note) reply ∷ xs) orderly by = absurd by

@@ -20,8 +20,11 @@ use Rattle.uss_event.specs.declared.events.Said.TheVariants as Says
 use Rattle.uss_event.specs.declared.events.Event.{Event}
 use Rattle.uss_law_dss.specs.Lists.{Has}
 use Rattle.uss_law_dss.proofs.Tests.{some_same, less_is, less_test, not_both}
-use Rattle.uss_law_book.specs.Lists.{Opening, Trial, Holding, Closing}
-use Rattle.uss_law_book.specs.Readings.{is_closed, trial_of, holding_of, ending_of}
+use Rattle.uss_event.specs.declared.entries.Opening.{Opening}
+use Rattle.uss_event.specs.declared.entries.Trial.{Trial}
+use Rattle.uss_event.specs.declared.entries.Holding.{Holding}
+use Rattle.uss_event.specs.declared.entries.Closing.{Closing}
+use Rattle.uss_law_book.specs.Contents.{is_closed, trial_of, holding_of, ending_of}
 use Rattle.uss_law_duty.specs.Answers.{is_final, flight_of, by_trial, by_end, by_close, kept_answer, job_named}
 use Rattle.uss_law_duty.specs.Sayings.{others}
 use Rattle.uss_law_duty.specs.Entered.{shown_tag}

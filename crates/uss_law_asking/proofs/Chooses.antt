@@ -28,8 +28,10 @@ use Rattle.uss_law_dss.specs.Service.{Service, relevant, lacking, in_key, has_ov
 use Rattle.uss_law_dss.specs.Step.{found_in}
 use Rattle.uss_law_dss.proofs.Lists.{has_filter, has_passed, has_filtered, list_any_has, any_true}
 use Rattle.uss_law_dss.proofs.Tests.{equal_bytes, both}
-use Rattle.uss_law_book.specs.Lists.{Opening, Holding, openings}
-use Rattle.uss_law_book.specs.Readings.{holding, trials_of}
+use Rattle.uss_event.specs.declared.entries.Opening.{Opening}
+use Rattle.uss_event.specs.declared.entries.Holding.{Holding}
+use Rattle.uss_law_book.specs.Lists.{openings}
+use Rattle.uss_law_book.specs.Contents.{holding, trials_of}
 use Rattle.uss_law_book.specs.Attempts.{held, held_by}
 use Rattle.uss_law_book.specs.Legal.{ArePlans}
 use Rattle.uss_law_book.proofs.Attempts.{attempt_kept}

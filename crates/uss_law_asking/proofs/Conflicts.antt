@@ -17,9 +17,11 @@ use Rattle.uss_event.specs.declared.events.Said.TheVariants as Says
 use Rattle.uss_event.specs.declared.events.Event.{Event}
 use Rattle.uss_event.specs.declared.events.Event.TheVariants as Comes
 use Rattle.uss_law_dss.proofs.Tests.{equal_number, not_both, some_same}
-use Rattle.uss_law_book.specs.Lists.{Opening, Closing, decisions, endings}
+use Rattle.uss_event.specs.declared.entries.Opening.{Opening}
+use Rattle.uss_event.specs.declared.entries.Closing.{Closing}
+use Rattle.uss_law_book.specs.Lists.{decisions, endings}
 use Rattle.uss_law_book.specs.Legal.{IsDue, MayFollow, MayAllFollow, IsLegal, EndsWish}
-use Rattle.uss_law_book.specs.Readings.{is_put, opening_of, is_ticket_open, is_closed, open_job_of, rounds_of, trials_of, decision_of, ending_of}
+use Rattle.uss_law_book.specs.Contents.{is_put, opening_of, is_ticket_open, is_closed, open_job_of, rounds_of, trials_of, decision_of, ending_of}
 use Rattle.uss_law_book.proofs.Entries.{endings_append}
 use Rattle.uss_law_book.proofs.Finds.{find_kept}
 use Rattle.uss_law_book.proofs.Kept.{opening_has}
@@ -58,7 +60,7 @@ as_decided book job d end o (Put to priority rounds proposals) k e w p (inl h) =
 as_decided book job d end o (Put to priority rounds proposals) k e w p (inr n) = no_trials job book d k e n.0
 as_decided book job d end o End k e w p h = cc
 
-may_end_so : (book : List Entry) (job : ℕ) (d : Closing) (end : Ending) → Known book → decision_of job book ≡ Some d → IsDue book (Enters.Done job end) → end ≡ d.end
+may_end_so : (book : List Entry) (job : ℕ) (d : Closing) (end : Ending) → Known book → decision_of job book ≡ Some d → IsDue book (Enters.Done (record { job = job; end = end })) → end ≡ d.end
 may_end_so book job d end known e due =
     let has = opening_has book job due.opening due.opened in
     let opened : opening_of due.opening.job book ≡ Some due.opening = ap (λ j. opening_of j book) has.1 ∙ due.opened in
@@ -71,11 +73,11 @@ not_undone book job c u h = none_some (ending_of job book) c (none_done job book
 decided_then : (book : List Entry) (e : Entry) → Known book → MayFollow book e → EndsAsDecided book → EndsAsDecided (book ++ e ∷ [])
 decided_then book e known f old job d c a b = go (new_decision job book e d a) (new_ending job book e c b)
   where
-    go : (decision_of job book ≡ Some d) ⊎ (e ≡ Enters.Deciding job d.end) → (ending_of job book ≡ Some c) ⊎ (e ≡ Enters.Done job c.end) → c.end ≡ d.end
+    go : (decision_of job book ≡ Some d) ⊎ (e ≡ Enters.Deciding (record { job = job; end = d.end })) → (ending_of job book ≡ Some c) ⊎ (e ≡ Enters.Done (record { job = job; end = c.end })) → c.end ≡ d.end
     go (inl q) (inl r) = old job d c q r
     go (inl q) (inr r) = may_end_so book job d c.end known q (subst (λ (x : Entry). IsDue book x) r f.due)
     go (inr q) (inl r) = not_undone book job c (subst (λ (x : Entry). IsDue book x) q f.due).unfinished.unclosed r
-    go (inr q) (inr r) = let w : Enters.Deciding job d.end ≡ Enters.Done job c.end = sym q ∙ r in cc (w)
+    go (inr q) (inr r) = let w : Enters.Deciding (record { job = job; end = d.end }) ≡ Enters.Done (record { job = job; end = c.end }) = sym q ∙ r in cc (w)
 
 decided_from : (before es : List Entry) → IsLegal before → EndsAsDecided before → MayAllFollow before es → EndsAsDecided (before ++ es)
 decided_from before [] l p h = subst EndsAsDecided (sym (append-nil before)) p
@@ -88,17 +90,17 @@ ends_as_decided book h = decided_from [] book tt (λ job d c a b. cc) h
 
 -- what the entry of a step decides and ends
 
-decided_now : (job : ℕ) (book : List Entry) (end : Ending) → decision_of job book ≡ None → decision_of job (book ++ Enters.Deciding job end ∷ []) ≡ Some (record { job = job; end = end })
+decided_now : (job : ℕ) (book : List Entry) (end : Ending) → decision_of job book ≡ None → decision_of job (book ++ Enters.Deciding (record { job = job; end = end }) ∷ []) ≡ Some (record { job = job; end = end })
 unfolding decision_of
 decided_now job book end n =
     let p : Closing → Bool = λ c. c.job == job in
-    ap (find p) (decisions_append book (Enters.Deciding job end ∷ [])) ∙ find-append p (decisions book) (record { job = job; end = end } ∷ []) ∙ ap (λ x. option_or x (find p (record { job = job; end = end } ∷ []))) n ∙ rw (equal_number job job refl) refl
+    ap (find p) (decisions_append book (Enters.Deciding (record { job = job; end = end }) ∷ [])) ∙ find-append p (decisions book) (record { job = job; end = end } ∷ []) ∙ ap (λ x. option_or x (find p (record { job = job; end = end } ∷ []))) n ∙ rw (equal_number job job refl) refl
 
-ended_now : (job : ℕ) (book : List Entry) (end : Ending) → ending_of job book ≡ None → ending_of job (book ++ Enters.Done job end ∷ []) ≡ Some (record { job = job; end = end })
+ended_now : (job : ℕ) (book : List Entry) (end : Ending) → ending_of job book ≡ None → ending_of job (book ++ Enters.Done (record { job = job; end = end }) ∷ []) ≡ Some (record { job = job; end = end })
 unfolding ending_of
 ended_now job book end n =
     let p : Closing → Bool = λ c. c.job == job in
-    ap (find p) (endings_append book (Enters.Done job end ∷ [])) ∙ find-append p (endings book) (record { job = job; end = end } ∷ []) ∙ ap (λ x. option_or x (find p (record { job = job; end = end } ∷ []))) n ∙ rw (equal_number job job refl) refl
+    ap (find p) (endings_append book (Enters.Done (record { job = job; end = end }) ∷ [])) ∙ find-append p (endings book) (record { job = job; end = end } ∷ []) ∙ ap (λ x. option_or x (find p (record { job = job; end = end } ∷ []))) n ∙ rw (equal_number job job refl) refl
 
 ending_kept_after : (job : ℕ) (book : List Entry) (x : Option Entry) (c : Closing) → ending_of job book ≡ Some c → ending_of job (book_after book x) ≡ Some c
 unfolding ending_of
@@ -122,7 +124,7 @@ conflicts_at : (n : ℕ) (s : Standing) (moment : ℤ) (o : Opening) (x : Exchan
 conflicts_at n s moment o (OfDss call reply) b w fit =
     let t = taken_in s o (Comes.Dss call reply) in
     subst (λ (x : Turn). Conflicts t o x) (sym (dss_turn n s moment o call reply b w fit.0)) (conflicts_by_dss t o call.ask reply w.kind w.is fit.0)
-conflicts_at n s moment o (OfPeer (Calls.Notify job place base note) reply) b w fit = let e = w.is in cc
+conflicts_at n s moment o (OfPeer (Calls.Notify job index base note) reply) b w fit = let e = w.is in cc
 conflicts_at n s moment o (OfPeer (Calls.Details job flight manager base) reply) b w fit =
     let t = taken_in s o (Comes.Peer (Calls.Details job flight manager base) reply) in
     subst (λ (x : Turn). Conflicts t o x) (sym (peer_turn n s moment o job flight manager base reply b w fit.0)) (conflicts_by_peer t o job flight manager base reply fit.0)
@@ -140,15 +142,15 @@ free_then : (job : ℕ) (book : List Entry) (x : Option Entry) → is_in_conflic
 free_then job book None h old d e = old d e
 free_then job book (Some en) h old d e = elim (new_decision job book en d e) [ inl q ↦ old d q | inr q ↦ ap is_in_conflict (ap Some (sym q)) ∙ h ]
 
-done_then : (job : ℕ) (book : List Entry) (x : Option Entry) (end : Ending) → x ≡ Some (Enters.Done job end) → NoConflict job book → NoConflict job (book_after book x)
+done_then : (job : ℕ) (book : List Entry) (x : Option Entry) (end : Ending) → x ≡ Some (Enters.Done (record { job = job; end = end })) → NoConflict job book → NoConflict job (book_after book x)
 done_then job book None end h old d e = old d e
 done_then job book (Some en) end h old d e = elim (new_decision job book en d e) [
   | inl q ↦ old d q
-  | inr q ↦ (let w : Enters.Deciding job d.end ≡ Enters.Done job end = sym q ∙ some_same en (Enters.Done job end) h in cc (w))
+  | inr q ↦ (let w : Enters.Deciding (record { job = job; end = d.end }) ≡ Enters.Done (record { job = job; end = end }) = sym q ∙ some_same en (Enters.Done (record { job = job; end = end })) h in cc (w))
 ]
 
 -- the end of an open job is that of the new entry
-ends_now : (job : ℕ) (book : List Entry) (x : Option Entry) (c : Closing) → is_closed job book ≡ false → ending_of job (book_after book x) ≡ Some c → x ≡ Some (Enters.Done job c.end)
+ends_now : (job : ℕ) (book : List Entry) (x : Option Entry) (c : Closing) → is_closed job book ≡ false → ending_of job (book_after book x) ≡ Some c → x ≡ Some (Enters.Done (record { job = job; end = c.end }))
 ends_now job book None c u h = not_undone book job c u h
 ends_now job book (Some e) c u h = elim (new_ending job book e c h) [ inl q ↦ not_undone book job c u q | inr q ↦ ap Some q ]
 
@@ -172,9 +174,9 @@ named_is s moment o x xs t c f m r sound u legal done end ch = go ch.enters
     is : Ending
     is = Ends.Conflict ch.flight ch.manager ch.rule
 
-    go : ((turn_of s moment (event_in x)).entry ≡ Some (Enters.Deciding o.job (Ends.Conflict ch.flight ch.manager ch.rule))) ⊎ ((turn_of s moment (event_in x)).entry ≡ Some (Enters.Done o.job (Ends.Conflict ch.flight ch.manager ch.rule))) → IsBlockedBy t o f m r
+    go : ((turn_of s moment (event_in x)).entry ≡ Some (Enters.Deciding (record { job = o.job; end = Ends.Conflict ch.flight ch.manager ch.rule }))) ⊎ ((turn_of s moment (event_in x)).entry ≡ Some (Enters.Done (record { job = o.job; end = Ends.Conflict ch.flight ch.manager ch.rule }))) → IsBlockedBy t o f m r
     go (inl q) =
-        let due = (follows_so s moment (event_in x) (Enters.Deciding o.job is) sound q).due in
+        let due = (follows_so s moment (event_in x) (Enters.Deciding (record { job = o.job; end = is })) sound q).due in
         let now : decision_of o.job (book_after s.book (turn_of s moment (event_in x)).entry) ≡ Some (record { job = o.job; end = is }) =
         ap (λ (y : Option Entry). decision_of o.job (book_after s.book y)) q ∙ decided_now o.job s.book is due.undecided in
         let then = decision_end o.job (event_in x) s moment xs (record { job = o.job; end = is }) now in
@@ -193,8 +195,12 @@ conflict_not end f m r e h = not_both (is_conflict end) (ap is_conflict e) h
 abbrev Blocks : Opening → ℕ → List ℕ → Verdict → Standing → Event → Type 0
 Blocks o f m r t e = IsBlockedBy (taken_in t o e) o f m r
 
-done_same : (job : ℕ) (a b : Ending) → Some (Enters.Done job a) ≡ Some (Enters.Done job b) → a ≡ b
-done_same job a b e = cc
+done_same : (job : ℕ) (a b : Ending) → Some (Enters.Done (record { job = job; end = a })) ≡ Some (Enters.Done (record { job = job; end = b })) → a ≡ b
+done_same job a b e = ap (end_in a) e
+  where
+    end_in : Ending → Option Entry → Ending
+    end_in x (Some (Enters.Done d)) = d.end
+    end_in x _ = x
 
 -- without a blocked choice the last step ends in no conflict
 not_at_last : {P : Type 0} (s : Standing) (moment : ℤ) (event : Event) (o : Opening) (c : Closing) (f : ℕ) (m : List ℕ) (r : Verdict) → is_closed o.job s.book ≡ false → ending_of o.job (book_after s.book (turn_of s moment event).entry) ≡ Some c

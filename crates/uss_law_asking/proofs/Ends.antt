@@ -33,8 +33,11 @@ use Rattle.uss_law_dss.specs.Service.{Service, has_ovn, recorded_of}
 use Rattle.uss_law_dss.specs.Step.{service_step, after_remove, subscribers}
 use Rattle.uss_law_dss.proofs.EachFits.{step_fits}
 use Rattle.uss_law_dss.proofs.Tests.{equal_number, equal_bytes, neither}
-use Rattle.uss_law_book.specs.Lists.{Opening, Holding, Closing, holdings, endings}
-use Rattle.uss_law_book.specs.Readings.{is_held, is_done, is_closed, last_of, base_of, holding, holding_of, ending_of}
+use Rattle.uss_event.specs.declared.entries.Opening.{Opening}
+use Rattle.uss_event.specs.declared.entries.Holding.{Holding}
+use Rattle.uss_event.specs.declared.entries.Closing.{Closing}
+use Rattle.uss_law_book.specs.Lists.{holdings, endings}
+use Rattle.uss_law_book.specs.Contents.{is_held, is_done, is_closed, last_of, current_ovn_of, holding, holding_of, ending_of}
 use Rattle.uss_law_book.specs.Attempts.{held, held_by}
 use Rattle.uss_law_book.specs.Legal.{IsAfter}
 use Rattle.uss_law_book.proofs.Entries.{holdings_append, endings_append}
@@ -75,10 +78,10 @@ pub none_done : (job : ℕ) (book : List Entry) → is_closed job book ≡ false
 unfolding ending_of is_done
 none_done job book u = find_not (λ (d : Closing). d.job == job) (endings book) (neither (is_held job book) (is_done job book) u).1
 
-pub kept_end : (owner : Owner) (o : Opening) (book : List Entry) (end : Ending) → is_closed o.job book ≡ false → kept_answer owner o (book ++ Enters.Done o.job end ∷ []) ≡ Some (by_end (flight_of owner o) end)
+pub kept_end : (owner : Owner) (o : Opening) (book : List Entry) (end : Ending) → is_closed o.job book ≡ false → kept_answer owner o (book ++ Enters.Done (record { job = o.job; end = end }) ∷ []) ≡ Some (by_end (flight_of owner o) end)
 unfolding kept_answer holding_of ending_of
 kept_end owner o book end u =
-    let e = Enters.Done o.job end in
+    let e = Enters.Done (record { job = o.job; end = end }) in
     let h : holding_of o.job (book ++ e ∷ []) ≡ None =
     ap (find (λ (h : Holding). h.job == o.job)) (holdings_append book (e ∷ []) ∙ append-nil (holdings book)) ∙ none_held o.job book u in
     let d : ending_of o.job (book ++ e ∷ []) ≡ Some (record { job = o.job; end = end }) =
@@ -116,7 +119,7 @@ held_there s at ask w n =
         refused false q k = cc
 
 -- the base of the flight stays at the opening
-pub base_then : (s : Standing) (at : ℤ) (ask : FlightAsk) → IsSound s.owner s.book s.values → base_of ask.flight (s.book ++ opening_entry s.book at ask ∷ []) ≡ base_of ask.flight s.book
+pub base_then : (s : Standing) (at : ℤ) (ask : FlightAsk) → IsSound s.owner s.book s.values → current_ovn_of ask.flight (s.book ++ opening_entry s.book at ask ∷ []) ≡ current_ovn_of ask.flight s.book
 base_then s at ask sound = ap (option_map (λ (h : Holding). h.ovn)) (same_holding s.book (opening_for s at ask).job at ask ask.flight (legal_is_orderly s.book sound.legal))
 
 -- the walk
@@ -160,7 +163,7 @@ ends_so s moment ask service served ovn w sound new accepted order held =
     let flight = flight_of s.owner o in
     let call : DssCall = record { job = o.job; ask = Asks.Remove flight ovn } in
     let t = with_entry e (calling o.job (dss_call o.job (Asks.Remove flight ovn)) s.values) in
-    let base : base_of ask.flight (s.book ++ e ∷ []) ≡ Some ovn = base_then s at ask sound ∙ held.base in
+    let base : current_ovn_of ask.flight (s.book ++ e ∷ []) ≡ Some ovn = base_then s at ask sound ∙ held.base in
     let opens : turn_of s moment (Comes.Ask ask) ≡ t =
     opens_so s moment ask orderly (legal_known s.book sound.legal) (ap plan_refusal w) new accepted
     ∙ ap (λ (x : Wish). with_entry e (asking (entered s e) o (first_kind (is_end x)))) w

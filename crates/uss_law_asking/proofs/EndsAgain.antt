@@ -28,10 +28,13 @@ use Rattle.uss_law_dss.specs.Lists.{Has}
 use Rattle.uss_law_dss.specs.Service.{Service}
 use Rattle.uss_law_dss.proofs.Lists.{find_has}
 use Rattle.uss_law_dss.proofs.Tests.{same_number, other_number, not_less, not_both, some_same}
-use Rattle.uss_law_book.specs.Lists.{Opening, Holding, Closing, openings, holdings, endings}
+use Rattle.uss_event.specs.declared.entries.Opening.{Opening}
+use Rattle.uss_event.specs.declared.entries.Holding.{Holding}
+use Rattle.uss_event.specs.declared.entries.Closing.{Closing}
+use Rattle.uss_law_book.specs.Lists.{openings, holdings, endings}
 use Rattle.uss_law_book.specs.Legal.{IsAfter, IsDue, MayFollow, MayAllFollow, IsLegal, EndsFlight, EndsWish}
 use Rattle.uss_law_book.specs.Orderly.{IsOrderly}
-use Rattle.uss_law_book.specs.Readings.{is_put, opening_of, is_closed, is_ticket_open, last_of, base_of, holding, holding_of, ending_of}
+use Rattle.uss_law_book.specs.Contents.{is_put, opening_of, is_closed, is_ticket_open, last_of, current_ovn_of, holding, holding_of, ending_of}
 use Rattle.uss_law_book.proofs.Entries.{opening_kept}
 use Rattle.uss_law_book.proofs.Held.{opening_is_found}
 use Rattle.uss_law_book.proofs.EachOrderly.{legal_is_orderly, orderly_after, orderly_at_first}
@@ -88,7 +91,7 @@ ends_then book e s f old job c o h k w = elim (new_ending job book e c h) [ inl 
         let p = ending_opened book job c s q in
         old job c p.0 q p.1 (ap (λ (x : Opening). x.ask.wish) (same p.0 p.1) ∙ w)
 
-    now : e ≡ Enters.Done job c.end → EndsFlight c.end
+    now : e ≡ Enters.Done (record { job = job; end = c.end }) → EndsFlight c.end
     now q =
         let d = subst (λ (x : Entry). IsDue book x) q f.due in
         ends_flight book job c.end d.opening.ask.wish (ap (λ (x : Opening). x.ask.wish) (same d.opening d.opened) ∙ w) d.wish
@@ -157,7 +160,7 @@ record Removes (s : Standing) (o : Opening) (ovn : List ℕ) : Type 0 where
   waits : awaited_of o.job values ≡ Some (dss_call o.job (Asks.Remove (flight_of s.owner o) ovn))
 
 -- the call that it waits for is that
-module _ (s : Standing) (o : Opening) (ovn : List ℕ) (u : IsOpenJob s.book o) (w : o.ask.wish ≡ End) (base : base_of o.ask.flight s.book ≡ Some ovn) where
+module _ (s : Standing) (o : Opening) (ovn : List ℕ) (u : IsOpenJob s.book o) (w : o.ask.wish ≡ End) (base : current_ovn_of o.ask.flight s.book ≡ Some ovn) where
   no_phase : {P : Type 0} (kind : Awaited) → kind ≢ Waits.Remove → IsPhase s.book o kind → P
   no_phase Waits.TicketPut n p = no_put o.ask.wish w p.0
   no_phase Waits.Query n p = no_put o.ask.wish w p.put
@@ -234,18 +237,18 @@ module _ (s : Standing) (moment : ℤ) (ask : FlightAsk) (service : Service) (se
 
     -- something is held, since it is open and has something to end
     held_still : is_closed last.job s.book ≡ false → (h : Holding) × (holding ask.flight s.book ≡ Some h)
-    held_still u = go (holding ask.flight s.book) refl (ap (λ f. is_some (base_of f s.book)) (sym its.1) ∙ (legal_known s.book sound.legal).based last its.0 w u)
+    held_still u = go (holding ask.flight s.book) refl (ap (λ f. is_some (current_ovn_of f s.book)) (sym its.1) ∙ (legal_known s.book sound.legal).based last its.0 w u)
       where
-        go : (x : Option Holding) → holding ask.flight s.book ≡ x → is_some (base_of ask.flight s.book) ≡ true → (h : Holding) × (holding ask.flight s.book ≡ Some h)
+        go : (x : Option Holding) → holding ask.flight s.book ≡ x → is_some (current_ovn_of ask.flight s.book) ≡ true → (h : Holding) × (holding ask.flight s.book ≡ Some h)
         go (Some h) q k = (h, q)
-        go None q k = let n : is_some (base_of ask.flight s.book) ≡ false = rw q refl in not_both (is_some (base_of ask.flight s.book)) k n
+        go None q k = let n : is_some (current_ovn_of ask.flight s.book) ≡ false = rw q refl in not_both (is_some (current_ovn_of ask.flight s.book)) k n
 
     open_removes : turn_of s moment (Comes.Ask ask) ≡ resuming s last → is_closed last.job s.book ≡ false → ComesOutAs (IsEnded s ask) s.owner.name served s moment (Comes.Ask ask) service
     open_removes turn u =
         let h = held_still u in
         let held = held_recorded s ask service h.0 sound e.orderly e.recorded h.1 in
         let unfinished : IsOpenJob s.book last = record { opened = opening_is_found s.book last (legal_is_orderly s.book sound.legal) its.0; unclosed = u } in
-        let base : base_of last.ask.flight s.book ≡ Some h.0.ovn = ap (λ f. base_of f s.book) its.1 ∙ held.base in
+        let base : current_ovn_of last.ask.flight s.book ≡ Some h.0.ovn = ap (λ f. current_ovn_of f s.book) its.1 ∙ held.base in
         let r = removes s last h.0.ovn unfinished w base sound.fit in
         let call : DssCall = record { job = last.job; ask = Asks.Remove (flight_of s.owner last) h.0.ovn } in
         let t = sending r.values (Goes.Dss call ∷ []) in

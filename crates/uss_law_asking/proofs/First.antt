@@ -26,10 +26,13 @@ use Rattle.uss_event.specs.declared.events.Event.TheVariants as Comes
 use Rattle.uss_law_dss.specs.Lists.{Has}
 use Rattle.uss_law_dss.proofs.Lists.{find_has, has_filter, has_passed}
 use Rattle.uss_law_dss.proofs.Tests.{equal_number, same_number, other_number, both, not_true, not_less, some_same}
-use Rattle.uss_law_book.specs.Lists.{Opening, Holding, Closing, openings, holdings, endings}
+use Rattle.uss_event.specs.declared.entries.Opening.{Opening}
+use Rattle.uss_event.specs.declared.entries.Holding.{Holding}
+use Rattle.uss_event.specs.declared.entries.Closing.{Closing}
+use Rattle.uss_law_book.specs.Lists.{openings, holdings, endings}
 use Rattle.uss_law_book.specs.Legal.{IsAfter}
 use Rattle.uss_law_book.specs.Orderly.{IsOrderly}
-use Rattle.uss_law_book.specs.Readings.{jobs_of, open_job_of, last_of, is_closed, decision_of, holding_of, ending_of, rounds_of}
+use Rattle.uss_law_book.specs.Contents.{jobs_of, open_job_of, last_of, is_closed, decision_of, holding_of, ending_of, rounds_of}
 use Rattle.uss_law_book.specs.Attempts.{held}
 use Rattle.uss_law_book.proofs.Entries.{openings_append}
 use Rattle.uss_law_book.proofs.Held.{opening_is_found, open_job_is_found}

@@ -13,12 +13,12 @@ use Rattle.uss_event.specs.declared.events.Said.TheVariants as Says
 use Rattle.uss_event.specs.declared.events.Event.{Event}
 use Rattle.uss_law_dss.specs.Fits.{fits, ascend}
 use Rattle.uss_law_dss.proofs.Tests.{both, not_both}
-use Rattle.uss_law_book.specs.Lists.{Opening}
-use Rattle.uss_law_book.specs.Readings.{open_job_of}
+use Rattle.uss_event.specs.declared.entries.Opening.{Opening}
+use Rattle.uss_law_book.specs.Contents.{open_job_of}
 use Rattle.uss_law_duty.specs.Duties.{says_something, clamped, is_prompting}
 use Rattle.uss_law_supplier.specs.Turns.{Standing, Turn}
 use Rattle.uss_law_supplier.specs.Jobs.{found_by}
-use Rattle.uss_law_book.specs.Readings.{rounds_of}
+use Rattle.uss_law_book.specs.Contents.{rounds_of}
 use Rattle.uss_law_supplier.specs.Typed.{IsReply, IsEvent}
 use Rattle.uss_law_asking.specs.Exchange.{Exchanged, call_in, event_in, turn_of, stands_then, IsExchange, AllFit, most_found, found_before, AlwaysReplies, AreRepliesOf, ExchangesEnd}
 use Rattle.uss_law_asking.specs.Exchange.Exchanged.{OfDss, OfPeer}
@@ -167,7 +167,7 @@ nothing_fits before (Goes.Dss call) = (by_ask call.ask, tt)
     by_ask (Asks.TicketGet ticket) = refl
     by_ask (Asks.TicketRemove ticket version) = refl
 nothing_fits before (Goes.Peer (Calls.Details job flight manager base)) = (refl, tt)
-nothing_fits before (Goes.Peer (Calls.Notify job place base note)) = (refl, tt)
+nothing_fits before (Goes.Peer (Calls.Notify job index base note)) = (refl, tt)
 
 nothing_typed : (before : List Exchanged) (call : Outgoing) → IsEvent (event_in (without_anything before call))
 nothing_typed before (Goes.Dss call) = by_ask call.ask
@@ -176,7 +176,7 @@ nothing_typed before (Goes.Dss call) = by_ask call.ask
     by_ask (Asks.Query area) = tt
     by_ask ask = tt
 nothing_typed before (Goes.Peer (Calls.Details job flight manager base)) = tt
-nothing_typed before (Goes.Peer (Calls.Notify job place base note)) = tt
+nothing_typed before (Goes.Peer (Calls.Notify job index base note)) = tt
 
 pub always_replied : AlwaysReplies without_anything
 always_replied = record { its_call = nothing_is; fits = nothing_fits; typed = nothing_typed }

@@ -30,8 +30,10 @@ use Rattle.uss_plan.specs.declared.choice.Choice.{Choice}
 use Rattle.uss_plan.specs.declared.choice.Choice.TheVariants.{Chosen, Blocked}
 use Rattle.uss_law_dss.specs.Fits.{fits}
 use Rattle.uss_law_dss.proofs.Tests.{some_same}
-use Rattle.uss_law_book.specs.Lists.{Opening, Trial, Closing}
-use Rattle.uss_law_book.specs.Readings.{trials_of, decision_of}
+use Rattle.uss_event.specs.declared.entries.Opening.{Opening}
+use Rattle.uss_event.specs.declared.entries.Trial.{Trial}
+use Rattle.uss_event.specs.declared.entries.Closing.{Closing}
+use Rattle.uss_law_book.specs.Contents.{trials_of, decision_of}
 use Rattle.uss_law_duty.specs.Answers.{flight_of}
 use Rattle.uss_law_duty.specs.Sayings.{others}
 use Rattle.uss_law_duty.specs.Entered.{shown_tag}
@@ -48,9 +50,13 @@ use Rattle.uss_law_supplier.specs.Jobs.{keeps_key, view_of, heard_of_dss, heard_
 use Rattle.uss_law_asking.specs.Exchange.Exchanged.{OfDss}
 use Rattle.uss_law_asking.specs.Causes.{missing_in}
 
+abbrev is_stale : Ending → Bool
+is_stale (Ends.Stale missing) = true
+is_stale _ = false
+
 -- the entry decides that a plan is stale
 abbrev pub is_stale_decision : Option Entry → Bool
-is_stale_decision (Some (Enters.Deciding job (Ends.Stale missing))) = true
+is_stale_decision (Some (Enters.Deciding d)) = is_stale d.end
 is_stale_decision _ = false
 
 abbrev pub IsPlain : Turn → Type 0
@@ -58,7 +64,7 @@ IsPlain t = is_stale_decision t.entry ≡ false
 
 -- or it names the flights that the reply names
 abbrev pub IsNaming : Opening → Option (List ℕ) → Turn → Type 0
-IsNaming o named t = IsPlain t ⊎ ((m : List ℕ) × (t.entry ≡ Some (Enters.Deciding o.job (Ends.Stale m))) × (named ≡ Some m))
+IsNaming o named t = IsPlain t ⊎ ((m : List ℕ) × (t.entry ≡ Some (Enters.Deciding (record { job = o.job; end = Ends.Stale m }))) × (named ≡ Some m))
 
 -- the parts
 
@@ -68,10 +74,6 @@ made_plain s job (Some ask) = refl
 
 pub asks_plain : (s : Standing) (o : Opening) (kind : Awaited) → IsPlain (asking s o kind)
 asks_plain s o kind = made_plain s o.job (call_of s.owner s.book o kind)
-
-abbrev is_stale : Ending → Bool
-is_stale (Ends.Stale missing) = true
-is_stale _ = false
 
 decides_plain : (s : Standing) (o : Opening) (end : Ending) → is_stale end ≡ false → IsPlain (deciding s o end)
 decides_plain s o (Ends.Conflict flight manager rule) h = refl

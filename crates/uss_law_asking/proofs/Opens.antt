@@ -42,8 +42,10 @@ use Rattle.uss_law_dss.proofs.EachFits.{step_fits}
 use Rattle.uss_law_dss.proofs.EachOrderly.{step_orderly}
 use Rattle.uss_law_dss.proofs.Lists.{find_has}
 use Rattle.uss_law_dss.proofs.Tests.{equal_number, unequal_number, equal_bytes, both, left_false, less_is, some_same}
-use Rattle.uss_law_book.specs.Lists.{Trial, Holding, openings, trials, holdings, endings}
-use Rattle.uss_law_book.specs.Readings.{trials_of, opening_of, is_job_of, has_ended, holdings_of, holding, base_of}
+use Rattle.uss_event.specs.declared.entries.Trial.{Trial}
+use Rattle.uss_event.specs.declared.entries.Holding.{Holding}
+use Rattle.uss_law_book.specs.Lists.{openings, trials, holdings, endings}
+use Rattle.uss_law_book.specs.Contents.{trials_of, opening_of, is_job_of, has_ended, holdings_of, holding, current_ovn_of}
 use Rattle.uss_law_book.specs.Legal.{ArePlans}
 use Rattle.uss_law_book.proofs.Attempts.{owner_kept}
 use Rattle.uss_law_book.proofs.Entries.{openings_append, trials_append, holdings_append, endings_append}
@@ -169,7 +171,7 @@ holding_stays flight job book =
     let c : endings (book ++ e ∷ []) ≡ endings book = endings_append book (e ∷ []) ∙ append-nil (endings book) in
     rw (a, b, c) refl
 
-pub looking_base : (s : Standing) (moment : ℤ) (ask : FlightAsk) → IsSound s.owner s.book s.values → base_of ask.flight (looking_book s moment ask) ≡ base_of ask.flight s.book
+pub looking_base : (s : Standing) (moment : ℤ) (ask : FlightAsk) → IsSound s.owner s.book s.values → current_ovn_of ask.flight (looking_book s moment ask) ≡ current_ovn_of ask.flight s.book
 looking_base s moment ask sound =
     ap (option_map (λ (h : Holding). h.ovn)) (holding_stays ask.flight (opening_for s (clamped moment) ask).job (opened_book s moment ask)) ∙ base_then s (clamped moment) ask sound
 
@@ -257,16 +259,16 @@ record Agrees (client : List ℕ) (ovn : Option (List ℕ)) (r : Option Recorded
   latest : is_stale_change r ovn ≡ false
 
 agrees : (s : Standing) (moment : ℤ) (ask : FlightAsk) (service : Service) (served : List OperationalIntent) → IsSound s.owner s.book s.values → IsUndisturbed s moment ask service served
-    → Agrees s.owner.name (base_of ask.flight s.book) (recorded_of (flight_of s.owner (opening_for s (clamped moment) ask)) service)
+    → Agrees s.owner.name (current_ovn_of ask.flight s.book) (recorded_of (flight_of s.owner (opening_for s (clamped moment) ask)) service)
 agrees s moment ask service served sound calm = go (holding ask.flight s.book) refl
   where
     id : ℕ
     id = flight_of s.owner (opening_for s (clamped moment) ask)
 
-    go : (x : Option Holding) → holding ask.flight s.book ≡ x → Agrees s.owner.name (base_of ask.flight s.book) (recorded_of id service)
+    go : (x : Option Holding) → holding ask.flight s.book ≡ x → Agrees s.owner.name (current_ovn_of ask.flight s.book) (recorded_of id service)
     go None e =
         let n = none_recorded s moment ask service served calm e in
-        let b : base_of ask.flight s.book ≡ None = ap (option_map (λ (h : Holding). h.ovn)) e in
+        let b : current_ovn_of ask.flight s.book ≡ None = ap (option_map (λ (h : Holding). h.ovn)) e in
         subst (λ x. Agrees s.owner.name x (recorded_of id service)) (sym b) (subst (λ x. Agrees s.owner.name None x) (sym n) (record { yours = refl; absent = refl; there = refl; latest = refl }))
     go (Some h) e =
         let r = held_recorded s ask service h sound calm.orderly calm.recorded e in
@@ -302,7 +304,7 @@ version_below flight service few = go (recorded_of flight service) refl
 pub is_acceptable : (s : Standing) (moment : ℤ) (ask : FlightAsk) (service : Service) (served : List OperationalIntent) (alternative : ℕ) (key : List (List ℕ)) (to : State) (priority rounds : ℕ) (proposals : List Proposal) (proposal : Proposal)
     → IsSound s.owner s.book s.values → IsUndisturbed s moment ask service served → ask.wish ≡ Put to priority rounds proposals → slice_get proposals alternative ≡ Some proposal → length key ≤ 1024
     → (is_strategic to && not (length (lacking key (relevant (flight_of s.owner (opening_for s (clamped moment) ask)) (proposal.volumes ++ proposal.off_nominal) service)) == 0)) ≡ false
-    → IsAcceptable (ticketed s moment ask service) s.owner.name (flight_of s.owner (opening_for s (clamped moment) ask)) (base_of ask.flight (looking_book s moment ask)) (proposal.volumes ++ proposal.off_nominal) key to
+    → IsAcceptable (ticketed s moment ask service) s.owner.name (flight_of s.owner (opening_for s (clamped moment) ask)) (current_ovn_of ask.flight (looking_book s moment ask)) (proposal.volumes ++ proposal.off_nominal) key to
     (ticket_number s.owner.number (opening_for s (clamped moment) ask).job)
 is_acceptable s moment ask service served alternative key to priority rounds proposals proposal sound calm w at few covered =
     let flight = flight_of s.owner (opening_for s (clamped moment) ask) in
@@ -326,7 +328,7 @@ is_acceptable s moment ask service served alternative key to priority rounds pro
       ticketed = ap (is_no_ticket_of s.owner.name) there ∙ ap not (equal_bytes s.owner.name s.owner.name refl);
       covered = ap (λ x. is_uncovered x (proposal.volumes ++ proposal.off_nominal)) there ∙ ap not lies;
       keyed = covered;
-      room = first_false (is_none (base_of ask.flight (looking_book s moment ask))) _ (no_le 4096 (length service.references) calm.few_references);
+      room = first_false (is_none (current_ovn_of ask.flight (looking_book s moment ask))) _ (no_le 4096 (length service.references) calm.few_references);
       version = version_below flight service calm.few_versions;
       landings = no_le 9999999999999999 (length service.landings) calm.few_landings;
     }
@@ -337,7 +339,7 @@ looking_untried s moment ask sound =
     same_trials o.job (opened_book s moment ask) ∙ Asking.same_trials o.job s.book (clamped moment) ask ∙ new_untried s.book o.job (legal_is_orderly s.book sound.legal) refl
 
 -- the base says whether the flight is new
-pub base_new : (s : Standing) (moment : ℤ) (ask : FlightAsk) → IsSound s.owner s.book s.values → is_none (base_of ask.flight (looking_book s moment ask)) ≡ is_new s ask
+pub base_new : (s : Standing) (moment : ℤ) (ask : FlightAsk) → IsSound s.owner s.book s.values → is_none (current_ovn_of ask.flight (looking_book s moment ask)) ≡ is_new s ask
 unfolding held
 base_new s moment ask sound = ap is_none (looking_base s moment ask sound) ∙ go (holding ask.flight s.book) refl
   where

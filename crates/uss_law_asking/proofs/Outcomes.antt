@@ -25,8 +25,10 @@ use Rattle.uss_event.specs.declared.events.Event.TheVariants as Comes
 use Rattle.uss_law_dss.specs.Lists.{Has}
 use Rattle.uss_law_dss.specs.Fits.{fits}
 use Rattle.uss_law_dss.proofs.Tests.{and_true, left_true}
-use Rattle.uss_law_book.specs.Lists.{Opening, Trial, trials}
-use Rattle.uss_law_book.specs.Readings.{opening_of, open_job_of, is_closed, owns, rounds_of}
+use Rattle.uss_event.specs.declared.entries.Opening.{Opening}
+use Rattle.uss_event.specs.declared.entries.Trial.{Trial}
+use Rattle.uss_law_book.specs.Lists.{trials}
+use Rattle.uss_law_book.specs.Contents.{opening_of, open_job_of, is_closed, owns, rounds_of}
 use Rattle.uss_law_book.proofs.Entries.{trials_append}
 use Rattle.uss_law_duty.specs.Duties.{book_after, says_something, clamped}
 use Rattle.uss_law_duty.specs.Answers.{kept_answer, job_named}
@@ -85,7 +87,7 @@ pub says_at : (n : ℕ) (s : Standing) (moment : ℤ) (o : Opening) (x : Exchang
 says_at n s moment o (OfDss call reply) b w fit =
     let t = with_values s (round_by_dss s o reply) in
     subst (λ (x : Turn). IsSaying s o (stop_by s.owner o s.book (OfDss call reply)) x) (sym (dss_turn n s moment o call reply b w fit.0)) (says_by_dss t o call.ask reply w.kind w.is w.unfinished fit.0)
-says_at n s moment o (OfPeer (Calls.Notify job place base note) reply) b w fit = let e = w.is in cc
+says_at n s moment o (OfPeer (Calls.Notify job index base note) reply) b w fit = let e = w.is in cc
 says_at n s moment o (OfPeer (Calls.Details job flight manager base) reply) b w fit =
     let call = Calls.Details job flight manager base in
     subst (λ (x : Turn). IsSaying s o (stop_by s.owner o s.book (OfPeer call reply)) x) (sym (peer_turn n s moment o job flight manager base reply b w fit.0))

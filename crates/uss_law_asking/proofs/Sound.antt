@@ -4,11 +4,11 @@ use Rattle.uss_event.specs.declared.entries.Entry.{Entry}
 use Rattle.uss_event.specs.declared.calls.Outgoing.{Outgoing}
 use Rattle.uss_event.specs.declared.events.Event.{Event}
 use Rattle.uss_event.specs.declared.events.Event.TheVariants as Comes
-use Rattle.uss_law_book.specs.Lists.{Opening}
-use Rattle.uss_law_book.specs.Readings.{opening_of, open_job_of, is_closed}
+use Rattle.uss_event.specs.declared.entries.Opening.{Opening}
+use Rattle.uss_law_book.specs.Contents.{opening_of, open_job_of, is_closed}
 use Rattle.uss_law_duty.specs.Duties.{says_something, clamped, is_ticket_remove, is_notify, is_awaited, is_prompting, MayStep}
 use Rattle.uss_law_supplier.specs.Turns.{Standing, Turn}
-use Rattle.uss_law_book.specs.Readings.{rounds_of}
+use Rattle.uss_law_book.specs.Contents.{rounds_of}
 use Rattle.uss_law_supplier.specs.Typed.{IsEvent}
 use Rattle.uss_law_supplier.specs.Laws.{IsSound}
 use Rattle.uss_law_supplier.proofs.Law.{steps_keep_duties, steps_stay_sound}

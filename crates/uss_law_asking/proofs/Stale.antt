@@ -26,8 +26,10 @@ use Rattle.uss_event.specs.declared.events.Event.{Event}
 use Rattle.uss_event.specs.declared.events.Event.TheVariants as Comes
 use Rattle.uss_law_dss.specs.Fits.{fits}
 use Rattle.uss_law_dss.proofs.Tests.{same_number, not_both, some_same}
-use Rattle.uss_law_book.specs.Lists.{Opening, Closing, decisions, endings}
-use Rattle.uss_law_book.specs.Readings.{open_job_of, decision_of, ending_of}
+use Rattle.uss_event.specs.declared.entries.Opening.{Opening}
+use Rattle.uss_event.specs.declared.entries.Closing.{Closing}
+use Rattle.uss_law_book.specs.Lists.{decisions, endings}
+use Rattle.uss_law_book.specs.Contents.{open_job_of, decision_of, ending_of}
 use Rattle.uss_law_book.specs.Legal.{MayFollow, MayAllFollow, IsLegal, IsDue, EndsWish}
 use Rattle.uss_law_book.proofs.Entries.{endings_append}
 use Rattle.uss_law_book.proofs.Finds.{find_kept}
@@ -38,7 +40,7 @@ use Rattle.uss_law_supplier.specs.declared.duties.Awaited.TheVariants as Waits
 use Rattle.uss_law_supplier.specs.Calls.{kind_of_ask}
 use Rattle.uss_law_supplier.specs.Turns.{Standing, Turn}
 use Rattle.uss_law_supplier.specs.Jobs.{keeps_key, round_by_dss, with_values}
-use Rattle.uss_law_book.specs.Readings.{rounds_of}
+use Rattle.uss_law_book.specs.Contents.{rounds_of}
 use Rattle.uss_law_supplier.specs.Typed.{IsEvent}
 use Rattle.uss_law_supplier.specs.Fitting.{IsPhase}
 use Rattle.uss_law_book.proofs.Others.{decisions_append}
@@ -68,25 +70,25 @@ unfolding decision_of
 decision_kept job book more d h = ap (find (λ (c : Closing). c.job == job)) (decisions_append book more) ∙ find_kept (λ (c : Closing). c.job == job) (decisions book) (decisions more) d h
 
 -- the end of a job is an old one, or that of the new entry
-pub new_ending : (job : ℕ) (book : List Entry) (e : Entry) (c : Closing) → ending_of job (book ++ e ∷ []) ≡ Some c → (ending_of job book ≡ Some c) ⊎ (e ≡ Enters.Done job c.end)
+pub new_ending : (job : ℕ) (book : List Entry) (e : Entry) (c : Closing) → ending_of job (book ++ e ∷ []) ≡ Some c → (ending_of job book ≡ Some c) ⊎ (e ≡ Enters.Done (record { job = job; end = c.end }))
 unfolding ending_of
 new_ending job book e c h = at (find p (endings book)) refl (sym (ap (find p) (endings_append book (e ∷ [])) ∙ find-append p (endings book) (endings (e ∷ []))) ∙ h)
   where
     p : Closing → Bool
     p = λ d. d.job == job
 
-    new : (e : Entry) → find p (endings (e ∷ [])) ≡ Some c → e ≡ Enters.Done job c.end
-    new (Enters.Done j end) q = go (j == job) refl q
+    new : (e : Entry) → find p (endings (e ∷ [])) ≡ Some c → e ≡ Enters.Done (record { job = job; end = c.end })
+    new (Enters.Done ending) q = go (ending.job == job) refl q
       where
-        go : (b : Bool) → (j == job) ≡ b → cond b (Some (record { job = j; end = end })) None ≡ Some c → Enters.Done j end ≡ Enters.Done job c.end
+        go : (b : Bool) → (ending.job == job) ≡ b → cond b (Some ending) None ≡ Some c → Enters.Done ending ≡ Enters.Done (record { job = job; end = c.end })
         go true k w =
-            let n = same_number j job k in
-            let m : end ≡ c.end = ap (λ (d : Closing). d.end) (some_same (record { job = j; end = end }) c w) in
-            ap (λ i. Enters.Done i end) n ∙ ap (Enters.Done job) m
+            let n = same_number ending.job job k in
+            let m : ending.end ≡ c.end = ap (λ (d : Closing). d.end) (some_same ending c w) in
+            ap (λ i. Enters.Done (record { job = i; end = ending.end })) n ∙ ap (λ x. Enters.Done (record { job = job; end = x })) m
         go false k w = cc
     new _ q = cc
 
-    at : (x : Option Closing) → find p (endings book) ≡ x → option_or x (find p (endings (e ∷ []))) ≡ Some c → (find p (endings book) ≡ Some c) ⊎ (e ≡ Enters.Done job c.end)
+    at : (x : Option Closing) → find p (endings book) ≡ x → option_or x (find p (endings (e ∷ []))) ≡ Some c → (find p (endings book) ≡ Some c) ⊎ (e ≡ Enters.Done (record { job = job; end = c.end }))
     at None k q = inr (new e q)
     at (Some d) k q = inl (k ∙ q)
 
@@ -98,13 +100,13 @@ stale_by_wish book job missing End n = absurd n
 stale_then : (book : List Entry) (e : Entry) → MayFollow book e → StaleIsDecided book → StaleIsDecided (book ++ e ∷ [])
 stale_then book e f old job c missing h k = elim (new_ending job book e c h) [
   | inl q ↦ kept (old job c missing q k)
-  | inr q ↦ kept (by_entry (subst (λ (x : Entry). IsDue book x) (q ∙ ap (Enters.Done job) k) f.due))
+  | inr q ↦ kept (by_entry (subst (λ (x : Entry). IsDue book x) (q ∙ ap (λ x. Enters.Done (record { job = job; end = x })) k) f.due))
 ]
   where
     kept : DecidedStale job missing book → DecidedStale job missing (book ++ e ∷ [])
     kept (d, a, b) = (d, decision_kept job book (e ∷ []) d a, b)
 
-    by_entry : IsDue book (Enters.Done job (Ends.Stale missing)) → DecidedStale job missing book
+    by_entry : IsDue book (Enters.Done (record { job = job; end = Ends.Stale missing })) → DecidedStale job missing book
     by_entry d = stale_by_wish book job missing d.opening.ask.wish d.wish
 
 stale_from : (before es : List Entry) → StaleIsDecided before → MayAllFollow before es → StaleIsDecided (before ++ es)
@@ -155,7 +157,7 @@ names_at : (n : ℕ) (s : Standing) (moment : ℤ) (o : Opening) (x : Exchanged)
 names_at n s moment o (OfDss call reply) b w fit =
     let t = with_values s (round_by_dss s o reply) in
     subst (λ (x : Turn). IsNaming o (missing_in (OfDss call reply)) x) (sym (dss_turn n s moment o call reply b w fit.0)) (names_by_dss t o call.job call.ask reply w.kind w.is fit.0)
-names_at n s moment o (OfPeer (Calls.Notify job place base note) reply) b w fit = let e = w.is in cc
+names_at n s moment o (OfPeer (Calls.Notify job index base note) reply) b w fit = let e = w.is in cc
 names_at n s moment o (OfPeer (Calls.Details job flight manager base) reply) b w fit =
     subst (λ (x : Turn). IsNaming o None x) (sym (peer_turn n s moment o job flight manager base reply b w fit.0)) (inl (plain_by_peer (taken_in s o (Comes.Peer (Calls.Details job flight manager base) reply)) o job flight manager base reply fit.0))
 
@@ -204,38 +206,46 @@ abbrev IsDecided : ℕ → Option Closing → List Exchanged → List Entry → 
 IsDecided job before replies book = (d : Closing) → decision_of job book ≡ Some d → (before ≡ Some d) ⊎ ((m : List ℕ) → d.end ≡ Ends.Stale m → missing_last replies ≡ Some m)
 
 -- a decision is an old one, or that of the new entry
-pub new_decision : (job : ℕ) (book : List Entry) (e : Entry) (d : Closing) → decision_of job (book ++ e ∷ []) ≡ Some d → (decision_of job book ≡ Some d) ⊎ (e ≡ Enters.Deciding job d.end)
+pub new_decision : (job : ℕ) (book : List Entry) (e : Entry) (d : Closing) → decision_of job (book ++ e ∷ []) ≡ Some d → (decision_of job book ≡ Some d) ⊎ (e ≡ Enters.Deciding (record { job = job; end = d.end }))
 unfolding decision_of
 new_decision job book e d h = at (find p (decisions book)) refl (sym (ap (find p) (decisions_append book (e ∷ [])) ∙ find-append p (decisions book) (decisions (e ∷ []))) ∙ h)
   where
     p : Closing → Bool
     p = λ c. c.job == job
 
-    new : (e : Entry) → find p (decisions (e ∷ [])) ≡ Some d → e ≡ Enters.Deciding job d.end
-    new (Enters.Deciding j end) q = go (j == job) refl q
+    new : (e : Entry) → find p (decisions (e ∷ [])) ≡ Some d → e ≡ Enters.Deciding (record { job = job; end = d.end })
+    new (Enters.Deciding decision) q = go (decision.job == job) refl q
       where
-        go : (b : Bool) → (j == job) ≡ b → cond b (Some (record { job = j; end = end })) None ≡ Some d → Enters.Deciding j end ≡ Enters.Deciding job d.end
+        go : (b : Bool) → (decision.job == job) ≡ b → cond b (Some decision) None ≡ Some d → Enters.Deciding decision ≡ Enters.Deciding (record { job = job; end = d.end })
         go true k w =
-            let n = same_number j job k in
-            let m : end ≡ d.end = ap (λ (c : Closing). c.end) (some_same (record { job = j; end = end }) d w) in
-            ap (λ i. Enters.Deciding i end) n ∙ ap (Enters.Deciding job) m
+            let n = same_number decision.job job k in
+            let m : decision.end ≡ d.end = ap (λ (c : Closing). c.end) (some_same decision d w) in
+            ap (λ i. Enters.Deciding (record { job = i; end = decision.end })) n ∙ ap (λ x. Enters.Deciding (record { job = job; end = x })) m
         go false k w = cc
     new _ q = cc
 
-    at : (x : Option Closing) → find p (decisions book) ≡ x → option_or x (find p (decisions (e ∷ []))) ≡ Some d → (find p (decisions book) ≡ Some d) ⊎ (e ≡ Enters.Deciding job d.end)
+    at : (x : Option Closing) → find p (decisions book) ≡ x → option_or x (find p (decisions (e ∷ []))) ≡ Some d → (find p (decisions book) ≡ Some d) ⊎ (e ≡ Enters.Deciding (record { job = job; end = d.end }))
     at None k q = inr (new e q)
     at (Some c) k q = inl (k ∙ q)
 
-plain_not : {P : Type 0} (x : Option Entry) (e : Entry) (job : ℕ) (m : List ℕ) → x ≡ Some e → e ≡ Enters.Deciding job (Ends.Stale m) → is_stale_decision x ≡ false → P
+plain_not : {P : Type 0} (x : Option Entry) (e : Entry) (job : ℕ) (m : List ℕ) → x ≡ Some e → e ≡ Enters.Deciding (record { job = job; end = Ends.Stale m }) → is_stale_decision x ≡ false → P
 plain_not x e job m q k h = not_both (is_stale_decision x) (ap is_stale_decision (q ∙ ap Some k)) h
 
 -- after an entry that decides nothing so
 plain_then : (job : ℕ) (before : Option Closing) (replies : List Exchanged) (book : List Entry) (x : Option Entry) → is_stale_decision x ≡ false → IsDecided job before replies book → IsDecided job before replies (book_after book x)
 plain_then job before replies book None h old d e = old d e
-plain_then job before replies book (Some en) h old d e = elim (new_decision job book en d e) [ inl q ↦ old d q | inr q ↦ inr (λ m k. plain_not (Some en) en job m refl (q ∙ ap (Enters.Deciding job) k) h) ]
+plain_then job before replies book (Some en) h old d e = elim (new_decision job book en d e) [ inl q ↦ old d q | inr q ↦ inr (λ m k. plain_not (Some en) en job m refl (q ∙ ap (λ x. Enters.Deciding (record { job = job; end = x })) k) h) ]
 
-same_missing : (e : Entry) (job i : ℕ) (m k : List ℕ) → e ≡ Enters.Deciding job (Ends.Stale m) → Some e ≡ Some (Enters.Deciding i (Ends.Stale k)) → k ≡ m
-same_missing e job i m k p q = let w : Enters.Deciding job (Ends.Stale m) ≡ Enters.Deciding i (Ends.Stale k) = sym p ∙ some_same e (Enters.Deciding i (Ends.Stale k)) q in cc (w)
+same_missing : (e : Entry) (job i : ℕ) (m k : List ℕ) → e ≡ Enters.Deciding (record { job = job; end = Ends.Stale m }) → Some e ≡ Some (Enters.Deciding (record { job = i; end = Ends.Stale k })) → k ≡ m
+same_missing e job i m k p q = ap missing_of (sym (some_same e (Enters.Deciding (record { job = i; end = Ends.Stale k })) q) ∙ p)
+  where
+    missing_of : Entry → List ℕ
+    missing_of (Enters.Deciding d) = of_end d.end
+      where
+        of_end : Ending → List ℕ
+        of_end (Ends.Stale missing) = missing
+        of_end _ = []
+    missing_of _ = []
 
 decided_then : (n : ℕ) (s : Standing) (moment : ℤ) (o : Opening) (z : Exchanged) (b : ℕ) (before : Option Closing) (replies : List Exchanged) → IsSoundAt s → IsWaiting n s o (call_in z) b → AllFit (z ∷ [])
     → IsNotRefused (turn_of s moment (event_in z)).said → IsDecided o.job before replies s.book → IsDecided o.job before (replies ++ z ∷ []) (stands_then s (turn_of s moment (event_in z))).book
@@ -248,12 +258,12 @@ decided_then n s moment o z b before replies sound w fit other old = at (turn_of
       | inr f ↦ inr (λ m h. last_of_same missing_in None replies z (names_none n s moment o z b d sound w fit e other) ∙ f m h)
     ]
 
-    at : (x : Option Entry) → (is_stale_decision x ≡ false) ⊎ ((m : List ℕ) × (x ≡ Some (Enters.Deciding o.job (Ends.Stale m))) × (missing_in z ≡ Some m)) → IsDecided o.job before (replies ++ z ∷ []) (book_after s.book x)
+    at : (x : Option Entry) → (is_stale_decision x ≡ false) ⊎ ((m : List ℕ) × (x ≡ Some (Enters.Deciding (record { job = o.job; end = Ends.Stale m }))) × (missing_in z ≡ Some m)) → IsDecided o.job before (replies ++ z ∷ []) (book_after s.book x)
     at x (inl h) = plain_then o.job before (replies ++ z ∷ []) s.book x h kept
     at None (inr (m, q, k)) = cc
     at (Some en) (inr (m, q, k)) = λ d e. elim (new_decision o.job s.book en d e) [
       | inl h ↦ kept d h
-      | inr h ↦ inr (λ m' i. last_of_more missing_in None replies z m' (k ∙ ap Some (same_missing en o.job o.job m' m (h ∙ ap (Enters.Deciding o.job) i) q)))
+      | inr h ↦ inr (λ m' i. last_of_more missing_in None replies z m' (k ∙ ap Some (same_missing en o.job o.job m' m (h ∙ ap (λ x. Enters.Deciding (record { job = o.job; end = x })) i) q)))
     ]
 
 not_nothing : (said : Said) → said ≡ Says.Nothing → IsNotRefused said

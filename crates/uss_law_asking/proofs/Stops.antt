@@ -35,8 +35,12 @@ use Rattle.uss_plan.specs.declared.choice.Choice.{Choice}
 use Rattle.uss_plan.specs.declared.choice.Choice.TheVariants.{Chosen, Blocked}
 use Rattle.uss_law_dss.specs.Fits.{fits}
 use Rattle.uss_law_dss.proofs.Tests.{some_same}
-use Rattle.uss_law_book.specs.Lists.{Opening, Trial, Holding, Closing, holdings, endings}
-use Rattle.uss_law_book.specs.Readings.{is_closed, trials_of, decision_of, holding_of, ending_of}
+use Rattle.uss_event.specs.declared.entries.Opening.{Opening}
+use Rattle.uss_event.specs.declared.entries.Trial.{Trial}
+use Rattle.uss_event.specs.declared.entries.Holding.{Holding}
+use Rattle.uss_event.specs.declared.entries.Closing.{Closing}
+use Rattle.uss_law_book.specs.Lists.{holdings, endings}
+use Rattle.uss_law_book.specs.Contents.{is_closed, trials_of, decision_of, holding_of, ending_of}
 use Rattle.uss_law_book.proofs.Entries.{holdings_append, endings_append}
 use Rattle.uss_law_duty.specs.Duties.{book_after}
 use Rattle.uss_law_duty.specs.Answers.{flight_of, kept_answer}
@@ -120,17 +124,17 @@ pub attempts_silently : (s : Standing) (o : Opening) (alternative : ℕ) (key : 
 attempts_silently s o alternative key = asks_silently_after s o (pending s o alternative key) Waits.Put
 
 pub decides_silently : (s : Standing) (o : Opening) (end : Ending) → IsKeeping s o (deciding s o end)
-decides_silently s o end = asks_silently_after s o (Enters.Deciding o.job end) Waits.TicketRemove
+decides_silently s o end = asks_silently_after s o (Enters.Deciding (record { job = o.job; end = end })) Waits.TicketRemove
 
-pub none_held_then : (job : ℕ) (book : List Entry) (end : Ending) → is_closed job book ≡ false → holding_of job (book ++ Enters.Done job end ∷ []) ≡ None
+pub none_held_then : (job : ℕ) (book : List Entry) (end : Ending) → is_closed job book ≡ false → holding_of job (book ++ Enters.Done (record { job = job; end = end }) ∷ []) ≡ None
 unfolding holding_of
 none_held_then job book end u =
-    ap (find (λ (h : Holding). h.job == job)) (holdings_append book (Enters.Done job end ∷ []) ∙ append-nil (holdings book)) ∙ none_held job book u
+    ap (find (λ (h : Holding). h.job == job)) (holdings_append book (Enters.Done (record { job = job; end = end }) ∷ []) ∙ append-nil (holdings book)) ∙ none_held job book u
 
-none_done_then : (job : ℕ) (book : List Entry) (tag : ℕ) (ovn : List ℕ) (version : ℕ) (owed : List Subscriber) → is_closed job book ≡ false → ending_of job (book ++ Enters.Held job tag ovn version owed ∷ []) ≡ None
+none_done_then : (job : ℕ) (book : List Entry) (tag : ℕ) (ovn : List ℕ) (version : ℕ) (owed : List Subscriber) → is_closed job book ≡ false → ending_of job (book ++ Enters.Held (record { job = job; tag = tag; ovn = ovn; version = version; owed = owed }) ∷ []) ≡ None
 unfolding ending_of
 none_done_then job book tag ovn version owed u =
-    ap (find (λ (d : Closing). d.job == job)) (endings_append book (Enters.Held job tag ovn version owed ∷ []) ∙ append-nil (endings book)) ∙ none_done job book u
+    ap (find (λ (d : Closing). d.job == job)) (endings_append book (Enters.Held (record { job = job; tag = tag; ovn = ovn; version = version; owed = owed }) ∷ []) ∙ append-nil (endings book)) ∙ none_done job book u
 
 ends_so : (s : Standing) (o : Opening) (end : Ending) → IsOpenJob s.book o → IsKeeping s o (ending s o end)
 ends_so s o end u = inr (refl, inl (none_held_then o.job s.book end u.unclosed))

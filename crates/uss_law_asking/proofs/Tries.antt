@@ -32,8 +32,11 @@ use Rattle.uss_law_dss.specs.Refusals.{is_bad_put, is_others, is_stale_change, i
 use Rattle.uss_law_dss.specs.Step.{service_step, after_put}
 use Rattle.uss_law_dss.proofs.EachFits.{step_fits}
 use Rattle.uss_law_dss.proofs.Tests.{equal_number, unequal_number}
-use Rattle.uss_law_book.specs.Lists.{Opening, Trial, Holding, owner_of, trials, holdings}
-use Rattle.uss_law_book.specs.Readings.{is_closed, trials_of, trial_of, base_of, holding_of}
+use Rattle.uss_event.specs.declared.entries.Opening.{Opening}
+use Rattle.uss_event.specs.declared.entries.Trial.{Trial}
+use Rattle.uss_event.specs.declared.entries.Holding.{Holding}
+use Rattle.uss_law_book.specs.Lists.{owner_of, trials, holdings}
+use Rattle.uss_law_book.specs.Contents.{is_closed, trials_of, trial_of, current_ovn_of, holding_of}
 use Rattle.uss_law_book.specs.Attempts.{Attempted, attempted, attempt_of, put_of}
 use Rattle.uss_law_book.proofs.Attempts.{owner_kept, from_parts, trial_kept}
 use Rattle.uss_law_book.proofs.Entries.{trials_append, holdings_append, opening_kept}
@@ -78,7 +81,7 @@ accepts service client flight ovn extents key state base ticket a =
 -- the job's first attempt
 
 abbrev trial : Standing → Opening → ℕ → List (List ℕ) → Trial
-trial s o alternative key = record { job = o.job; tag = length (trials s.book) + 1; alternative = alternative; previous = base_of o.ask.flight s.book; key = key }
+trial s o alternative key = record { job = o.job; tag = length (trials s.book) + 1; alternative = alternative; previous = current_ovn_of o.ask.flight s.book; key = key }
 
 pub record IsFirst (s : Standing) (o : Opening) (alternative : ℕ) (to : State) (priority rounds : ℕ) (proposals : List Proposal) (proposal : Proposal) : Type 0 where
   pub unfinished : IsOpenJob s.book o
@@ -138,11 +141,11 @@ says_so flight tag alternative ovn version None = refl
 says_so flight tag alternative ovn version (Some p) = refl
 
 kept_record : (owner : Owner) (o : Opening) (book : List Entry) (t : Trial) (ovn : List ℕ) (version : ℕ) (owed : List Subscriber) → is_closed o.job book ≡ false → trial_of t.tag book ≡ Some t
-    → kept_answer owner o (book ++ Enters.Held o.job t.tag ovn version owed ∷ [])
+    → kept_answer owner o (book ++ Enters.Held (record { job = o.job; tag = t.tag; ovn = ovn; version = version; owed = owed }) ∷ [])
     ≡ cond (is_none t.previous) (Some (Answers.Planned (flight_of owner o) t.tag t.alternative ovn version)) (Some (Answers.Changed (flight_of owner o) t.tag t.alternative ovn version))
 unfolding kept_answer holding_of
 kept_record owner o book t ovn version owed u f =
-    let e = Enters.Held o.job t.tag ovn version owed in
+    let e = Enters.Held (record { job = o.job; tag = t.tag; ovn = ovn; version = version; owed = owed }) in
     let h : Holding = record { job = o.job; tag = t.tag; ovn = ovn; version = version; owed = owed } in
     let held : holding_of o.job (book ++ e ∷ []) ≡ Some h =
     ap (find (λ (h : Holding). h.job == o.job)) (holdings_append book (e ∷ []))
@@ -167,8 +170,8 @@ lands s moment o served service t flight previous extents key state ticket r ovn
 
 pub tries : (s : Standing) (v : Values) (moment : ℤ) (event : Event) (served : List OperationalIntent) (service : Service) (o : Opening) (alternative : ℕ) (key : List (List ℕ)) (to : State) (priority rounds : ℕ) (proposals : List Proposal) (proposal : Proposal)
     → turn_of s moment event ≡ attempting (with_values s v) o alternative key → IsFirst s o alternative to priority rounds proposals proposal → Dss.IsOrderly service
-    → IsAcceptable service s.owner.name (flight_of s.owner o) (base_of o.ask.flight s.book) (proposal.volumes ++ proposal.off_nominal) key to (ticket_number s.owner.number o.job)
-    → ComesOutAs (IsRecordedBy (is_none (base_of o.ask.flight s.book)) (flight_of s.owner o) alternative) s.owner.name served s moment event service
+    → IsAcceptable service s.owner.name (flight_of s.owner o) (current_ovn_of o.ask.flight s.book) (proposal.volumes ++ proposal.off_nominal) key to (ticket_number s.owner.number o.job)
+    → ComesOutAs (IsRecordedBy (is_none (current_ovn_of o.ask.flight s.book)) (flight_of s.owner o) alternative) s.owner.name served s moment event service
 tries s v moment event served service o alternative key to priority rounds proposals proposal turn f orderly a =
     let w = with_values s v in
     let e = pending s o alternative key in
@@ -178,10 +181,10 @@ tries s v moment event served service o alternative key to priority rounds propo
     let then = with_entry e (calling o.job (dss_call o.job put) v) in
     let made : turn_of s moment event ≡ then =
     turn ∙ ap (λ (x : Option Attempted). with_entry e (making (record { owner = s.owner; book = s.book ++ e ∷ []; values = v }) o.job (option_map put_of x))) (attempt_is s o alternative key to priority rounds proposals proposal f) in
-    let step = accepts service s.owner.name (flight_of s.owner o) (base_of o.ask.flight s.book) (proposal.volumes ++ proposal.off_nominal) key to (tagged_base s.owner.base t.tag) (ticket_number s.owner.number o.job) a in
+    let step = accepts service s.owner.name (flight_of s.owner o) (current_ovn_of o.ask.flight s.book) (proposal.volumes ++ proposal.off_nominal) key to (tagged_base s.owner.base t.tag) (ticket_number s.owner.number o.job) a in
     let fit = subst (λ x. fits put x.0 ≡ true) step (step_fits service s.owner.name put orderly) in
     let n = f.fits in
-    goes_on_by (IsRecordedBy (is_none (base_of o.ask.flight s.book)) (flight_of s.owner o) alternative) s.owner.name served s moment event service call then made refl refl
-    (subst (λ x. ComesOutAs (IsRecordedBy (is_none (base_of o.ask.flight s.book)) (flight_of s.owner o) alternative) s.owner.name served (stands_then s then) moment (Comes.Dss call x.0) x.1) (sym step)
-    (lands (stands_then s then) moment o served _ t (flight_of s.owner o) (base_of o.ask.flight s.book) (proposal.volumes ++ proposal.off_nominal) key to (ticket_number s.owner.number o.job) _ _ _
+    goes_on_by (IsRecordedBy (is_none (current_ovn_of o.ask.flight s.book)) (flight_of s.owner o) alternative) s.owner.name served s moment event service call then made refl refl
+    (subst (λ x. ComesOutAs (IsRecordedBy (is_none (current_ovn_of o.ask.flight s.book)) (flight_of s.owner o) alternative) s.owner.name served (stands_then s then) moment (Comes.Dss call x.0) x.1) (sym step)
+    (lands (stands_then s then) moment o served _ t (flight_of s.owner o) (current_ovn_of o.ask.flight s.book) (proposal.volumes ++ proposal.off_nominal) key to (ticket_number s.owner.number o.job) _ _ _
     (still s o e f.unfinished (pending_leaves_open s o alternative key)) (trial_is s o alternative key f.tags) (omega arith) n (awaiting_own o.job (dss_call o.job put) v) fit refl refl))

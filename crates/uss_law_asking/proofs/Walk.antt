@@ -18,11 +18,11 @@ use Rattle.uss_law_dss.specs.Fits.{fits}
 use Rattle.uss_law_dss.specs.Service.{Service}
 use Rattle.uss_law_dss.specs.Step.{service_step}
 use Rattle.uss_law_dss.proofs.Tests.{unequal_number, and_true}
-use Rattle.uss_law_book.specs.Lists.{Opening}
+use Rattle.uss_event.specs.declared.entries.Opening.{Opening}
 use Rattle.uss_law_book.specs.Legal.{IsAfter}
 use Rattle.uss_law_book.specs.Orderly.{IsOrderly}
-use Rattle.uss_law_book.specs.Readings.{last_of}
-use Rattle.uss_law_book.specs.Readings.{opening_of}
+use Rattle.uss_law_book.specs.Contents.{last_of}
+use Rattle.uss_law_book.specs.Contents.{opening_of}
 use Rattle.uss_law_duty.specs.Duties.{says_something, clamped}
 use Rattle.uss_law_supplier.specs.declared.duties.Awaited.{Awaited}
 use Rattle.uss_law_supplier.specs.Values.{awaited_of, round_of, hearing, progress_of}

@@ -26,7 +26,7 @@ use Rattle.uss_law_dss.specs.Lists.{Has}
 use Rattle.uss_law_dss.specs.Service.{Service, shown_to}
 use Rattle.uss_law_dss.proofs.Lists.{has_left, has_last, has_push, has_map, find_has, length-map}
 use Rattle.uss_law_dss.proofs.Tests.{equal_number, same_number, and_true, both, not_true, not_both, not_less, left_true, right_true, less_is}
-use Rattle.uss_law_book.specs.Lists.{Opening}
+use Rattle.uss_event.specs.declared.entries.Opening.{Opening}
 use Rattle.uss_event.specs.Heard.{kept_pairs, kept_pair}
 use Rattle.uss_event.specs.Heard.News.{Heard}
 use Rattle.uss_law_duty.specs.Answers.{flight_of}

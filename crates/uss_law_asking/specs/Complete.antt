@@ -28,7 +28,7 @@ use Rattle.uss_law_dss.specs.Service.{Service, recorded_of, ticket_of}
 use Rattle.uss_law_dss.specs.Step.{found_in, service_step}
 use Rattle.uss_law_dss.specs.Orderly.{IsOrderly}
 use Rattle.uss_law_book.specs.Lists.{openings}
-use Rattle.uss_law_book.specs.Readings.{last_of}
+use Rattle.uss_law_book.specs.Contents.{last_of}
 use Rattle.uss_law_book.specs.Attempts.{held}
 use Rattle.uss_law_book.specs.Legal.{IsAfter}
 use Rattle.uss_event.specs.Heard.{kept_pair, is_of}
@@ -57,7 +57,7 @@ AreByService client served service (OfDss call reply ∷ xs) =
     (reply ≡ (service_step service client call.ask).0) × AreByService client served (service_step service client call.ask).1 xs
 AreByService client served service (OfPeer (Calls.Details job flight manager base) reply ∷ xs) =
     (reply ≡ served_reply (served_of flight manager served)) × AreByService client served service xs
-AreByService client served service (OfPeer (Calls.Notify job place base note) reply ∷ xs) = ⊥
+AreByService client served service (OfPeer (Calls.Notify job index base note) reply ∷ xs) = ⊥
 
 -- the pair is of the recorded reference
 pub record IsPairOf (r : Recorded) (p : OperationalIntent) : Type 0 where

@@ -12,8 +12,8 @@ use Rattle.uss_event.specs.declared.asks.AskRefusal.TheVariants as Refuses
 use Rattle.uss_event.specs.declared.entries.Entry.{Entry}
 use Rattle.uss_event.specs.declared.events.Event.{Event}
 use Rattle.uss_event.specs.declared.events.Event.TheVariants as Comes
-use Rattle.uss_law_book.specs.Lists.{Opening}
-use Rattle.uss_law_book.specs.Readings.{last_of, open_job_of}
+use Rattle.uss_event.specs.declared.entries.Opening.{Opening}
+use Rattle.uss_law_book.specs.Contents.{last_of, open_job_of}
 use Rattle.uss_law_book.specs.Attempts.{held}
 use Rattle.uss_law_supplier.specs.Monitor.{later_position}
 use Rattle.uss_law_supplier.specs.Values.{sightings_of}

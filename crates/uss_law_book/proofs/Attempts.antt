@@ -6,8 +6,10 @@ use Rattle.uss_event.specs.declared.entries.Entry.TheVariants as Enters
 use Rattle.uss_law_dss.specs.Lists.{Has}
 use Rattle.uss_law_dss.proofs.Lists.{find_has}
 use Rattle.uss_law_dss.proofs.Tests.{same_number, equal_number}
-use Rattle.uss_law_book.specs.Lists.{owner_of, Opening, Trial, trials}
-use Rattle.uss_law_book.specs.Readings.{opening_of, trial_of}
+use Rattle.uss_event.specs.declared.entries.Opening.{Opening}
+use Rattle.uss_event.specs.declared.entries.Trial.{Trial}
+use Rattle.uss_law_book.specs.Lists.{owner_of, trials}
+use Rattle.uss_law_book.specs.Contents.{opening_of, trial_of}
 use Rattle.uss_law_book.specs.Attempts.{Attempted, attempt_of, by_trial, by_opening, by_wish, attempted}
 use Rattle.uss_law_book.proofs.Finds.{find_found, find_kept}
 use Rattle.uss_law_book.proofs.Entries.{trials_append, opening_kept, NewTrial}

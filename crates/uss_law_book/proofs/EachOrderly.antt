@@ -8,8 +8,12 @@ use Rattle.uss_event.specs.declared.entries.Entry.TheVariants as Enters
 use Rattle.uss_law_dss.specs.Lists.{Has}
 use Rattle.uss_law_dss.proofs.Lists.{list_any_has}
 use Rattle.uss_law_dss.proofs.Tests.{same_number, both}
-use Rattle.uss_law_book.specs.Lists.{owner_of, Opening, Trial, Holding, Closing, openings, trials, holdings, endings}
-use Rattle.uss_law_book.specs.Readings.{opening_of, trial_of, is_closed, owns, base_of}
+use Rattle.uss_event.specs.declared.entries.Opening.{Opening}
+use Rattle.uss_event.specs.declared.entries.Trial.{Trial}
+use Rattle.uss_event.specs.declared.entries.Holding.{Holding}
+use Rattle.uss_event.specs.declared.entries.Closing.{Closing}
+use Rattle.uss_law_book.specs.Lists.{owner_of, openings, trials, holdings, endings}
+use Rattle.uss_law_book.specs.Contents.{opening_of, trial_of, is_closed, owns, current_ovn_of}
 use Rattle.uss_law_book.specs.Attempts.{Attempted, attempt_of}
 use Rattle.uss_law_book.specs.Coding.{HasCoding}
 use Rattle.uss_law_book.specs.Legal.{is_owner, is_new, IsDue, MayFollow, MayAllFollow, IsLegal}
@@ -174,13 +178,13 @@ previous_after book e s d t u h k q = elim (which_trial book (e ∷ []) t h) [
 
 -- of an attempt of a job that was opened before the new entry
 based_old : (book : List Entry) (e : Entry) (t : Trial) (o : Opening) → IsOrderly book → IsDue book e → Has (trials book) t ⊎ Has (trials (e ∷ [])) t → Has (openings book) o → o.job ≡ t.job
-    → is_closed o.job (book ++ e ∷ []) ≡ false → t.previous ≡ base_of o.ask.flight book
+    → is_closed o.job (book ++ e ∷ []) ≡ false → t.previous ≡ current_ovn_of o.ask.flight book
 based_old book e t o s d (inl a) i q u = s.based t o a i q (unclosed_before o.job book (e ∷ []) u)
 based_old book e t o s d (inr b) i q u =
     let n = new_trial book e t d b in
     let k = opening_has book t.job n.opening n.opened in
     let same : n.opening ≡ o = s.jobs n.opening o k.0 i (k.1 ∙ sym q) in
-    n.base ∙ ap (λ (x : Opening). base_of x.ask.flight book) same
+    n.base ∙ ap (λ (x : Opening). current_ovn_of x.ask.flight book) same
 
 -- no attempt is older than its job
 based_new : {P : Type 0} (book : List Entry) (e : Entry) (t : Trial) (o : Opening) → IsOrderly book → IsDue book e → Has (trials book) t ⊎ Has (trials (e ∷ [])) t → Has (openings (e ∷ [])) o
@@ -191,7 +195,7 @@ based_new book e t o s d (inl a) i q =
 based_new book e t o s d (inr b) i q = absurd (not_both_new e o t i b)
 
 based_after : (book : List Entry) (e : Entry) → IsOrderly book → IsDue book e → (t : Trial) (o : Opening) → Has (trials (book ++ e ∷ [])) t → Has (openings (book ++ e ∷ [])) o → o.job ≡ t.job
-    → is_closed o.job (book ++ e ∷ []) ≡ false → t.previous ≡ base_of o.ask.flight (book ++ e ∷ [])
+    → is_closed o.job (book ++ e ∷ []) ≡ false → t.previous ≡ current_ovn_of o.ask.flight (book ++ e ∷ [])
 based_after book e s d t o h k q u = elim (which_opening book (e ∷ []) o k) [
   | inl i ↦ based_old book e t o s d (which_trial book (e ∷ []) t h) i q u ∙ sym (base_kept book e o s d i u)
   | inr i ↦ based_new book e t o s d (which_trial book (e ∷ []) t h) i q
@@ -260,7 +264,7 @@ found_by_tag book e s d t h =
     f.1 ∙ ap Some (tags_after book e s d f.0 t g.0 h g.1)
 
 owner_before : (book : List Entry) (e : Entry) (t : Trial) → IsOrderly book → is_owner e ≡ is_new book → Has (trials (e ∷ [])) t → (o : Owner) × (owner_of book ≡ Some o)
-owner_before book (Pending job tag alternative previous key) t s f h = s.owner (sym f)
+owner_before book (Pending trial) t s f h = s.owner (sym f)
 owner_before book _ t s f h = absurd h
 
 attempted_after : (book : List Entry) (e : Entry) → IsOrderly book → IsDue book e → is_owner e ≡ is_new book → (t : Trial) → Has (trials (book ++ e ∷ [])) t

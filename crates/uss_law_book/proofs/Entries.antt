@@ -10,32 +10,36 @@ use Rattle.uss_event.specs.declared.entries.Entry.TheVariants.{Opened, Pending, 
 use Rattle.uss_law_dss.specs.Lists.{Has}
 use Rattle.uss_law_dss.proofs.Lists.{has_append, has_left}
 use Rattle.uss_law_dss.proofs.Tests.{neither, equal_number}
-use Rattle.uss_law_book.specs.Lists.{Opening, Trial, Holding, Closing, openings, trials, holdings, endings}
-use Rattle.uss_law_book.specs.Readings.{opening_of, is_held, is_done, is_closed, is_open, owns, open_job_of, last_of, base_of}
+use Rattle.uss_event.specs.declared.entries.Opening.{Opening}
+use Rattle.uss_event.specs.declared.entries.Trial.{Trial}
+use Rattle.uss_event.specs.declared.entries.Holding.{Holding}
+use Rattle.uss_event.specs.declared.entries.Closing.{Closing}
+use Rattle.uss_law_book.specs.Lists.{openings, trials, holdings, endings}
+use Rattle.uss_law_book.specs.Contents.{opening_of, is_held, is_done, is_closed, is_open, owns, open_job_of, last_of, current_ovn_of}
 use Rattle.uss_law_book.specs.Coding.{HasCoding}
 use Rattle.uss_law_book.specs.Legal.{IsDue, IsAfter}
 use Rattle.uss_law_book.proofs.Finds.{find_found, find_kept, halves}
 
 pub openings_append : (xs ys : List Entry) → openings (xs ++ ys) ≡ openings xs ++ openings ys
 openings_append [] ys = refl
-openings_append (Opened job moment ask ∷ xs) ys = ap (λ (l : List Opening). record { job = job; moment = moment; ask = ask } ∷ l) (openings_append xs ys)
+openings_append (Opened o ∷ xs) ys = ap (λ (l : List Opening). o ∷ l) (openings_append xs ys)
 openings_append (_ ∷ xs) ys = openings_append xs ys
 
 pub trials_append : (xs ys : List Entry) → trials (xs ++ ys) ≡ trials xs ++ trials ys
 trials_append [] ys = refl
-trials_append (Pending job tag alternative previous key ∷ xs) ys =
-    ap (λ (l : List Trial). record { job = job; tag = tag; alternative = alternative; previous = previous; key = key } ∷ l) (trials_append xs ys)
+trials_append (Pending t ∷ xs) ys =
+    ap (λ (l : List Trial). t ∷ l) (trials_append xs ys)
 trials_append (_ ∷ xs) ys = trials_append xs ys
 
 pub holdings_append : (xs ys : List Entry) → holdings (xs ++ ys) ≡ holdings xs ++ holdings ys
 holdings_append [] ys = refl
-holdings_append (Held job tag ovn version owed ∷ xs) ys =
-    ap (λ (l : List Holding). record { job = job; tag = tag; ovn = ovn; version = version; owed = owed } ∷ l) (holdings_append xs ys)
+holdings_append (Held h ∷ xs) ys =
+    ap (λ (l : List Holding). h ∷ l) (holdings_append xs ys)
 holdings_append (_ ∷ xs) ys = holdings_append xs ys
 
 pub endings_append : (xs ys : List Entry) → endings (xs ++ ys) ≡ endings xs ++ endings ys
 endings_append [] ys = refl
-endings_append (Done job end ∷ xs) ys = ap (λ (l : List Closing). record { job = job; end = end } ∷ l) (endings_append xs ys)
+endings_append (Done d ∷ xs) ys = ap (λ (l : List Closing). d ∷ l) (endings_append xs ys)
 endings_append (_ ∷ xs) ys = endings_append xs ys
 
 -- an old item stays, and an item is old or the new entry's
@@ -90,7 +94,7 @@ pub record NewTrial (book : List Entry) (t : Trial) : Type 0 where
   pub opened : opening_of t.job book ≡ Some opening
   pub unclosed : is_closed t.job book ≡ false
   pub next : t.tag ≡ length (trials book) + 1
-  pub base : t.previous ≡ base_of opening.ask.flight book
+  pub base : t.previous ≡ current_ovn_of opening.ask.flight book
   pub to : State
   pub priority : ℕ
   pub rounds : ℕ
@@ -108,18 +112,18 @@ pub record NewEnding (book : List Entry) (d : Closing) : Type 0 where
   pub unclosed : is_closed d.job book ≡ false
 
 pub new_opening : (book : List Entry) (e : Entry) (o : Opening) → IsDue book e → Has (openings (e ∷ [])) o → NewOpening book o
-new_opening book (Opened job moment ask) o d (inl q) = subst (NewOpening book) q (record { next = d.next; free = d.free; later = d.later })
-new_opening book (Opened job moment ask) o d (inr n) = absurd n
+new_opening book (Opened opening) o d (inl q) = subst (NewOpening book) q (record { next = d.next; free = d.free; later = d.later })
+new_opening book (Opened opening) o d (inr n) = absurd n
 new_opening book _ o d h = absurd h
 
 pub new_trial : (book : List Entry) (e : Entry) (t : Trial) → IsDue book e → Has (trials (e ∷ [])) t → NewTrial book t
-new_trial book (Pending job tag alternative previous key) t d (inl q) =
+new_trial book (Pending trial) t d (inl q) =
     subst (NewTrial book) q (record {
       opening = d.opening;
       opened = d.unfinished.opened;
       unclosed = d.unfinished.unclosed;
       next = d.next;
-      base = d.base;
+      base = d.current;
       to = d.to;
       priority = d.priority;
       rounds = d.rounds;
@@ -127,54 +131,54 @@ new_trial book (Pending job tag alternative previous key) t d (inl q) =
       put = d.unfinished.put;
       one_of = d.one_of;
     })
-new_trial book (Pending job tag alternative previous key) t d (inr n) = absurd n
+new_trial book (Pending trial) t d (inr n) = absurd n
 new_trial book _ t d h = absurd h
 
 pub new_holding : (book : List Entry) (e : Entry) (x : Holding) → IsDue book e → Has (holdings (e ∷ [])) x → NewHolding book x
-new_holding book (Held job tag ovn version owed) x d (inl q) = subst (NewHolding book) q (record { unfinished = d.unfinished; own = d.own })
-new_holding book (Held job tag ovn version owed) x d (inr n) = absurd n
+new_holding book (Held h) x d (inl q) = subst (NewHolding book) q (record { unfinished = d.unfinished; own = d.own })
+new_holding book (Held h) x d (inr n) = absurd n
 new_holding book _ x d h = absurd h
 
 pub new_ending : (book : List Entry) (e : Entry) (x : Closing) → IsDue book e → Has (endings (e ∷ [])) x → NewEnding book x
-new_ending book (Done job end) x d (inl q) = subst (NewEnding book) q (record { opening = d.opening; opened = d.opened; unclosed = d.unclosed })
-new_ending book (Done job end) x d (inr n) = absurd n
+new_ending book (Done ending) x d (inl q) = subst (NewEnding book) q (record { opening = d.opening; opened = d.opened; unclosed = d.unclosed })
+new_ending book (Done ending) x d (inr n) = absurd n
 new_ending book _ x d h = absurd h
 
 -- an entry opens one job, makes one attempt, and not both
 pub one_opening : (e : Entry) (o p : Opening) → Has (openings (e ∷ [])) o → Has (openings (e ∷ [])) p → o ≡ p
-one_opening (Opened job moment ask) o p (inl q) (inl r) = sym q ∙ r
-one_opening (Opened job moment ask) o p (inl q) (inr n) = absurd n
-one_opening (Opened job moment ask) o p (inr n) h = absurd n
+one_opening (Opened opening) o p (inl q) (inl r) = sym q ∙ r
+one_opening (Opened opening) o p (inl q) (inr n) = absurd n
+one_opening (Opened opening) o p (inr n) h = absurd n
 one_opening _ o p h k = absurd h
 
 pub one_trial : (e : Entry) (t u : Trial) → Has (trials (e ∷ [])) t → Has (trials (e ∷ [])) u → t ≡ u
-one_trial (Pending job tag alternative previous key) t u (inl q) (inl r) = sym q ∙ r
-one_trial (Pending job tag alternative previous key) t u (inl q) (inr n) = absurd n
-one_trial (Pending job tag alternative previous key) t u (inr n) h = absurd n
+one_trial (Pending trial) t u (inl q) (inl r) = sym q ∙ r
+one_trial (Pending trial) t u (inl q) (inr n) = absurd n
+one_trial (Pending trial) t u (inr n) h = absurd n
 one_trial _ t u h k = absurd h
 
 pub not_both_new : (e : Entry) (o : Opening) (t : Trial) → Has (openings (e ∷ [])) o → Has (trials (e ∷ [])) t → ⊥
-not_both_new (Opened job moment ask) o t h k = absurd k
+not_both_new (Opened opening) o t h k = absurd k
 not_both_new _ o t h k = absurd h
 
 pub one_holding : (e : Entry) (h k : Holding) → Has (holdings (e ∷ [])) h → Has (holdings (e ∷ [])) k → h ≡ k
-one_holding (Held job tag ovn version owed) h k (inl q) (inl r) = sym q ∙ r
-one_holding (Held job tag ovn version owed) h k (inl q) (inr n) = absurd n
-one_holding (Held job tag ovn version owed) h k (inr n) m = absurd n
+one_holding (Held holding) h k (inl q) (inl r) = sym q ∙ r
+one_holding (Held holding) h k (inl q) (inr n) = absurd n
+one_holding (Held holding) h k (inr n) m = absurd n
 one_holding _ h k m n = absurd m
 
 pub one_ending : (e : Entry) (d c : Closing) → Has (endings (e ∷ [])) d → Has (endings (e ∷ [])) c → d ≡ c
-one_ending (Done job end) d c (inl q) (inl r) = sym q ∙ r
-one_ending (Done job end) d c (inl q) (inr n) = absurd n
-one_ending (Done job end) d c (inr n) m = absurd n
+one_ending (Done ending) d c (inl q) (inl r) = sym q ∙ r
+one_ending (Done ending) d c (inl q) (inr n) = absurd n
+one_ending (Done ending) d c (inr n) m = absurd n
 one_ending _ d c m n = absurd m
 
 pub not_both_close : (e : Entry) (h : Holding) (d : Closing) → Has (holdings (e ∷ [])) h → Has (endings (e ∷ [])) d → ⊥
-not_both_close (Held job tag ovn version owed) h d m n = absurd n
+not_both_close (Held holding) h d m n = absurd n
 not_both_close _ h d m n = absurd m
 
 -- the tag of a new attempt fits
 pub new_tag_fits : (e : Entry) (t : Trial) → HasCoding e → Has (trials (e ∷ [])) t → t.tag < 2 ^ 64
-new_tag_fits (Pending job tag alternative previous key) t c (inl q) = subst (λ (x : Trial). x.tag < 2 ^ 64) q c.tag_fits
-new_tag_fits (Pending job tag alternative previous key) t c (inr n) = absurd n
+new_tag_fits (Pending trial) t c (inl q) = subst (λ (x : Trial). x.tag < 2 ^ 64) q c.tag_fits
+new_tag_fits (Pending trial) t c (inr n) = absurd n
 new_tag_fits _ t c h = absurd h

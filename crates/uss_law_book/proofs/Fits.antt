@@ -9,8 +9,9 @@ use Rattle.uss_event.specs.declared.entries.Entry.TheVariants as Enters
 use Rattle.uss_law_dss.specs.Lists.{Has}
 use Rattle.uss_law_dss.proofs.Lists.{has_filter, has_filtered, has_passed}
 use Rattle.uss_law_dss.proofs.Tests.{equal_number, not_true}
-use Rattle.uss_law_book.specs.Lists.{Opening, openings}
-use Rattle.uss_law_book.specs.Readings.{is_closed, is_open}
+use Rattle.uss_event.specs.declared.entries.Opening.{Opening}
+use Rattle.uss_law_book.specs.Lists.{openings}
+use Rattle.uss_law_book.specs.Contents.{is_closed, is_open}
 use Rattle.uss_law_book.specs.Coding.{record_length, journal_length}
 use Rattle.uss_law_book.specs.Reserve.{journal_limit, need, is_reserved, reserved}
 use Rattle.uss_law_book.specs.Changes.{is_later_of, bytes_of}
@@ -75,14 +76,14 @@ maker_of book job e h made =
 
 maker : (book : List Entry) (e : Entry) → is_reserved book e ≡ true → Maker book e
 maker book (Enters.Owner owner) h = cc
-maker book (Opened job moment ask) h = cc
+maker book (Opened o) h = cc
 maker book (TicketOpen job) h = maker_of book job (TicketOpen job) h (λ n q. equal_number job n q)
-maker book (Pending job tag alternative previous key) h = maker_of book job (Pending job tag alternative previous key) h (λ n q. equal_number job n q)
-maker book (Held job tag ovn version owed) h = maker_of book job (Held job tag ovn version owed) h (λ n q. equal_number job n q)
-maker book (Deciding job end) h = maker_of book job (Deciding job end) h (λ n q. equal_number job n q)
-maker book (Done job end) h = maker_of book job (Done job end) h (λ n q. equal_number job n q)
+maker book (Pending t) h = maker_of book t.job (Pending t) h (λ n q. equal_number t.job n q)
+maker book (Held holding) h = maker_of book holding.job (Held holding) h (λ n q. equal_number holding.job n q)
+maker book (Deciding d) h = maker_of book d.job (Deciding d) h (λ n q. equal_number d.job n q)
+maker book (Done d) h = maker_of book d.job (Done d) h (λ n q. equal_number d.job n q)
 maker book (TicketGone job) h = maker_of book job (TicketGone job) h (λ n q. equal_number job n q)
-maker book (Sent job place) h = maker_of book job (Sent job place) h (λ n q. equal_number job n q)
+maker book (Sent sending) h = maker_of book sending.job (Sent sending) h (λ n q. equal_number sending.job n q)
 
 abbrev open_of : List Entry → List Opening
 open_of book = filter (λ o. not (is_closed o.job book)) (openings book)

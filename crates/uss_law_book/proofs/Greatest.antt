@@ -5,8 +5,9 @@ use Rattle.uss_event.specs.declared.entries.Entry.{Entry}
 use Rattle.uss_law_dss.specs.Lists.{Has}
 use Rattle.uss_law_dss.proofs.Lists.{has_filtered, find_none}
 use Rattle.uss_law_dss.proofs.Tests.{less_is, not_less, equal_number, not_false}
-use Rattle.uss_law_book.specs.Lists.{Opening, openings}
-use Rattle.uss_law_book.specs.Readings.{greater, greatest, jobs_of, last_of, open_job_of, is_closed}
+use Rattle.uss_event.specs.declared.entries.Opening.{Opening}
+use Rattle.uss_law_book.specs.Lists.{openings}
+use Rattle.uss_law_book.specs.Contents.{greater, greatest, jobs_of, last_of, open_job_of, is_closed}
 use Rattle.uss_law_book.specs.Legal.{IsAfter}
 
 -- at least so great

@@ -8,8 +8,11 @@ use Rattle.uss_event.specs.declared.entries.Entry.TheVariants.{Opened, Held, Don
 use Rattle.uss_law_dss.specs.Lists.{Has}
 use Rattle.uss_law_dss.proofs.Lists.{has_filter, has_passed, none_passes}
 use Rattle.uss_law_dss.proofs.Tests.{same_number, equal_number, less_test}
-use Rattle.uss_law_book.specs.Lists.{Opening, Holding, Closing, openings, holdings, endings}
-use Rattle.uss_law_book.specs.Readings.{opening_of, jobs_of, greater, greatest, last_of, is_ended, is_job_of, has_ended, holdings_of, last_holding}
+use Rattle.uss_event.specs.declared.entries.Opening.{Opening}
+use Rattle.uss_event.specs.declared.entries.Holding.{Holding}
+use Rattle.uss_event.specs.declared.entries.Closing.{Closing}
+use Rattle.uss_law_book.specs.Lists.{openings, holdings, endings}
+use Rattle.uss_law_book.specs.Contents.{opening_of, jobs_of, greater, greatest, last_of, is_ended, is_job_of, has_ended, holdings_of, last_holding}
 use Rattle.uss_law_book.specs.Legal.{MayOpen}
 use Rattle.uss_law_book.specs.Orderly.{IsOrderly}
 use Rattle.uss_law_book.proofs.Finds.{any_agrees, filter_agrees, none_filtered, or_false}
@@ -41,10 +44,10 @@ less_than_new es o p d k =
     number_is_greater es o.ask p d.later (has_filter (λ (x : Opening). x.ask.flight == o.ask.flight) (openings es) p k)
     (same_number p.ask.flight o.ask.flight (has_passed (λ (x : Opening). x.ask.flight == o.ask.flight) (openings es) p k))
 
-pub last_new : (es : List Entry) (o : Opening) → MayOpen es o.job o.ask → last_of o.ask.flight (es ++ Opened o.job o.moment o.ask ∷ []) ≡ Some o
+pub last_new : (es : List Entry) (o : Opening) → MayOpen es o.job o.ask → last_of o.ask.flight (es ++ Opened o ∷ []) ≡ Some o
 unfolding last_of
 last_new es o d =
-    let e : Entry = Opened o.job o.moment o.ask in
+    let e : Entry = Opened o in
     let one : filter (λ (p : Opening). p.ask.flight == o.ask.flight) (o ∷ []) ≡ o ∷ [] = rw (equal_number o.ask.flight o.ask.flight refl) refl in
     ap greatest (jobs_split o.ask.flight es e ∙ ap (λ (l : List Opening). jobs_of o.ask.flight es ++ l) one) ∙ greatest_last (jobs_of o.ask.flight es) o (λ p k. less_than_new es o p d k)
 
@@ -73,9 +76,9 @@ last_holding_else g es e s none =
     ap (λ (l : List Holding). last_or None l)
     (holdings_split g es e s ∙ ap (λ (l : List Holding). holdings_of g es ++ l) (none_filtered (λ (x : Holding). is_job_of g x.job (es ++ e ∷ [])) (holdings (e ∷ [])) none) ∙ append-nil (holdings_of g es))
 
-pub last_holding_new : (g : ℕ) (es : List Entry) (x : Holding) → IsOrderly es → is_job_of g x.job (es ++ Held x.job x.tag x.ovn x.version x.owed ∷ []) ≡ true → last_holding g (es ++ Held x.job x.tag x.ovn x.version x.owed ∷ []) ≡ Some x
+pub last_holding_new : (g : ℕ) (es : List Entry) (x : Holding) → IsOrderly es → is_job_of g x.job (es ++ Held x ∷ []) ≡ true → last_holding g (es ++ Held x ∷ []) ≡ Some x
 last_holding_new g es x s is =
-    let e : Entry = Held x.job x.tag x.ovn x.version x.owed in
+    let e : Entry = Held x in
     let one : filter (λ (y : Holding). is_job_of g y.job (es ++ e ∷ [])) (x ∷ []) ≡ x ∷ [] = rw is refl in
     ap (λ (l : List Holding). last_or None l) (holdings_split g es e s ∙ ap (λ (l : List Holding). holdings_of g es ++ l) one) ∙ last_pushed None (holdings_of g es) x
 
@@ -99,6 +102,6 @@ and_true_right : (a : Bool) → (a && true) ≡ a
 and_true_right true = refl
 and_true_right false = refl
 
-pub ended_new : (g : ℕ) (es : List Entry) (x : Closing) → IsOrderly es → is_job_of g x.job (es ++ Done x.job x.end ∷ []) ≡ true → has_ended g (es ++ Done x.job x.end ∷ []) ≡ (has_ended g es || is_ended x.end)
+pub ended_new : (g : ℕ) (es : List Entry) (x : Closing) → IsOrderly es → is_job_of g x.job (es ++ Done x ∷ []) ≡ true → has_ended g (es ++ Done x ∷ []) ≡ (has_ended g es || is_ended x.end)
 ended_new g es x s is =
-    ended_split g es (Done x.job x.end) s ∙ ap (λ b. has_ended g es || b) (ap (λ b. (is_ended x.end && b) || false) is ∙ or_false (is_ended x.end && true) ∙ and_true_right (is_ended x.end))
+    ended_split g es (Done x) s ∙ ap (λ b. has_ended g es || b) (ap (λ b. (is_ended x.end && b) || false) is ∙ or_false (is_ended x.end && true) ∙ and_true_right (is_ended x.end))

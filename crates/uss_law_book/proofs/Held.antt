@@ -7,8 +7,11 @@ use Rattle.uss_event.specs.Pairs.{OperationalIntent}
 use Rattle.uss_law_dss.specs.Lists.{Has}
 use Rattle.uss_law_dss.proofs.Lists.{has_filter, has_passed, find_has}
 use Rattle.uss_law_dss.proofs.Tests.{same_number, not_true}
-use Rattle.uss_law_book.specs.Lists.{Opening, Trial, Holding, openings, trials, holdings}
-use Rattle.uss_law_book.specs.Readings.{opening_of, trial_of, is_closed, is_for, is_job_of, has_ended, holdings_of, last_holding, holding, jobs_of, open_job_of, base_of}
+use Rattle.uss_event.specs.declared.entries.Opening.{Opening}
+use Rattle.uss_event.specs.declared.entries.Trial.{Trial}
+use Rattle.uss_event.specs.declared.entries.Holding.{Holding}
+use Rattle.uss_law_book.specs.Lists.{openings, trials, holdings}
+use Rattle.uss_law_book.specs.Contents.{opening_of, trial_of, is_closed, is_for, is_job_of, has_ended, holdings_of, last_holding, holding, jobs_of, open_job_of, current_ovn_of}
 use Rattle.uss_law_book.specs.Attempts.{attempt_of, held_by, held}
 use Rattle.uss_law_book.specs.Orderly.{IsOrderly, IsHeldOf}
 use Rattle.uss_law_book.proofs.Finds.{find_found}
@@ -88,7 +91,7 @@ held_of book flight h s e =
     }
 
 -- the base of a flight is the OVN of what is held of it
-pub base_is : (book : List Entry) (flight : ℕ) → IsOrderly book → base_of flight book ≡ option_and_then (λ (p : OperationalIntent). p.reference.ovn) (held flight book)
+pub base_is : (book : List Entry) (flight : ℕ) → IsOrderly book → current_ovn_of flight book ≡ option_and_then (λ (p : OperationalIntent). p.reference.ovn) (held flight book)
 unfolding held
 base_is book flight s = go (holding flight book) refl
   where

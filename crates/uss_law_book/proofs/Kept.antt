@@ -9,8 +9,11 @@ use Rattle.uss_event.specs.declared.entries.Entry.{Entry}
 use Rattle.uss_law_dss.specs.Lists.{Has}
 use Rattle.uss_law_dss.proofs.Lists.{find_has, any_true, none_passes}
 use Rattle.uss_law_dss.proofs.Tests.{same_number, equal_number, neither, both, not_true}
-use Rattle.uss_law_book.specs.Lists.{Opening, Holding, Closing, openings, holdings, endings}
-use Rattle.uss_law_book.specs.Readings.{opening_of, is_held, is_done, is_closed, is_open, is_job_of, is_ended, has_ended, holdings_of, holding, base_of}
+use Rattle.uss_event.specs.declared.entries.Opening.{Opening}
+use Rattle.uss_event.specs.declared.entries.Holding.{Holding}
+use Rattle.uss_event.specs.declared.entries.Closing.{Closing}
+use Rattle.uss_law_book.specs.Lists.{openings, holdings, endings}
+use Rattle.uss_law_book.specs.Contents.{opening_of, is_held, is_done, is_closed, is_open, is_job_of, is_ended, has_ended, holdings_of, holding, current_ovn_of}
 use Rattle.uss_law_book.specs.Legal.{IsDue}
 use Rattle.uss_law_book.specs.Orderly.{IsOrderly}
 use Rattle.uss_law_book.proofs.Finds.{any_agrees, filter_agrees, none_filtered, first_false}
@@ -120,5 +123,5 @@ holding_kept book e o s d h u =
     rw (ended_kept book e o s d h u, holdings_kept book e o s d h u) refl
 
 pub base_kept : (book : List Entry) (e : Entry) (o : Opening) → IsOrderly book → IsDue book e → Has (openings book) o → is_closed o.job (book ++ e ∷ []) ≡ false
-    → base_of o.ask.flight (book ++ e ∷ []) ≡ base_of o.ask.flight book
+    → current_ovn_of o.ask.flight (book ++ e ∷ []) ≡ current_ovn_of o.ask.flight book
 base_kept book e o s d h u = ap (λ (x : Option Holding). option_map (λ (y : Holding). y.ovn) x) (holding_kept book e o s d h u)

@@ -12,10 +12,13 @@ use Rattle.uss_event.specs.declared.entries.Entry.TheVariants as Enters
 use Rattle.uss_law_dss.specs.Lists.{Has}
 use Rattle.uss_law_dss.proofs.Lists.{list_any_has}
 use Rattle.uss_law_dss.proofs.Tests.{same_number, unequal_number, neither, either, left_false, right_true}
-use Rattle.uss_law_book.specs.Lists.{Opening, Holding, Closing, openings, holdings, endings, tickets_gone}
-use Rattle.uss_law_book.specs.Readings.{opening_of, is_held, is_done, is_closed, decision_of, holding_of, ending_of, is_ticket_open, is_ticket_gone, owed_of, owed_at_end, is_told, untold, keeps_ticket}
+use Rattle.uss_event.specs.declared.entries.Opening.{Opening}
+use Rattle.uss_event.specs.declared.entries.Holding.{Holding}
+use Rattle.uss_event.specs.declared.entries.Closing.{Closing}
+use Rattle.uss_law_book.specs.Lists.{openings, holdings, endings, tickets_gone}
+use Rattle.uss_law_book.specs.Contents.{opening_of, is_held, is_done, is_closed, decision_of, holding_of, ending_of, is_ticket_open, is_ticket_gone, owed_of, owed_at_end, is_sent, unsent, keeps_ticket}
 use Rattle.uss_law_book.specs.Reserve.{need}
-use Rattle.uss_law_book.specs.Legal.{IsDue, MayOpen, MayRetire, MayTell, MayFollow, IsLegal}
+use Rattle.uss_law_book.specs.Legal.{IsDue, MayOpen, MayRetire, MaySend, MayFollow, IsLegal}
 use Rattle.uss_law_book.specs.Orderly.{IsOrderly}
 use Rattle.uss_law_book.proofs.Entries.{openings_append, unclosed_before}
 use Rattle.uss_law_book.proofs.Kept.{opening_has, open_parts}
@@ -23,7 +26,7 @@ use Rattle.uss_law_book.proofs.EachOrderly.{legal_is_orderly}
 use Rattle.uss_law_book.specs.Changes.{for_ticket, taken, released}
 use Rattle.uss_law_book.proofs.EachLegal.{each_legal}
 use Rattle.uss_law_book.proofs.Others.{is_of_job}
-use Rattle.uss_law_book.proofs.Still.{held_either, done_either, gone_either, told_either, done_still, closed_still, ticket_still, gone_still, told_still, holding_still, decision_still, owed_still, untold_still, ticket_gone_still, filters_agree, holds_it, ends_it, goes_now, tells_it, nothing_held, nothing_ended, held_now, ended_now, one_if, cost, cost_still}
+use Rattle.uss_law_book.proofs.Still.{held_either, done_either, gone_either, sent_either, done_still, closed_still, ticket_still, gone_still, sent_still, holding_still, decision_still, owed_still, unsent_still, ticket_gone_still, filters_agree, holds_it, ends_it, goes_now, sends_it, nothing_held, nothing_ended, held_now, ended_now, one_if, cost, cost_still}
 use Rattle.uss_law_book.proofs.Sums.{AreNumbered, one_more_job, sums_agree, sums_differ, counts_are_sums, one_less}
 
 -- ---- what holds of every legal book
@@ -32,17 +35,17 @@ pub numbered : (es : List Entry) → IsLegal es → AreNumbered 1 (openings es)
 numbered es l = each_legal (λ book. AreNumbered 1 (openings book)) tt (λ book e h m was. subst (λ (os : List Opening). AreNumbered 1 os) (sym (openings_append book (e ∷ []))) (more book e m was)) es l
   where
     more : (book : List Entry) (e : Entry) → MayFollow book e → AreNumbered 1 (openings book) → AreNumbered 1 (openings book ++ openings (e ∷ []))
-    more book (Opened job moment ask) m was = let d = m.due.next in one_more_job 1 (openings book) (record { job = job; moment = moment; ask = ask }) was (omega (arith, d))
+    more book (Opened o) m was = let d = m.due.next in one_more_job 1 (openings book) o was (omega (arith, d))
     more book e m was = subst (λ (os : List Opening). AreNumbered 1 os) (sym (append-nil (openings book))) was
 
-no_answer : (es : List Entry) (e : Entry) → IsDue es e → (j place : ℕ) → is_closed j es ≡ false → is_told j place (e ∷ []) ≡ false
-unfolding is_told
-no_answer es (Sent k p) d j place u = go (k == j) refl
+no_answer : (es : List Entry) (e : Entry) → IsDue es e → (j index : ℕ) → is_closed j es ≡ false → is_sent j index (e ∷ []) ≡ false
+unfolding is_sent
+no_answer es (Sent sending) d j index u = go (sending.job == j) refl
   where
-    go : (b : Bool) → (k == j) ≡ b → ((b && (p == place)) || false) ≡ false
-    go true q = absurd (let c : is_closed j es ≡ true = subst (λ n. is_closed n es ≡ true) (same_number k j q) d.closed in let t : true ≡ false = sym c ∙ u in cc)
+    go : (b : Bool) → (sending.job == j) ≡ b → ((b && (sending.index == index)) || false) ≡ false
+    go true q = absurd (let c : is_closed j es ≡ true = subst (λ n. is_closed n es ≡ true) (same_number sending.job j q) d.closed in let t : true ≡ false = sym c ∙ u in cc)
     go false q = refl
-no_answer es _ d j place u = refl
+no_answer es _ d j index u = refl
 
 not_gone : (es : List Entry) (e : Entry) → IsDue es e → (j : ℕ) → is_closed j es ≡ false → is_one_of j (tickets_gone (e ∷ [])) ≡ false
 not_gone es (TicketGone k) d j u = go (k == j) refl
@@ -54,22 +57,22 @@ not_gone es _ d j u = refl
 
 -- of a job that isn't closed no notification was answered, and the ticket wasn't heard as gone
 pub record IsUnanswered (es : List Entry) (j : ℕ) : Type 0 where
-  pub untold : (place : ℕ) → is_told j place es ≡ false
+  pub unsent : (index : ℕ) → is_sent j index es ≡ false
   pub there : is_one_of j (tickets_gone es) ≡ false
 
 pub unanswered : (es : List Entry) → IsLegal es → (j : ℕ) → is_closed j es ≡ false → IsUnanswered es j
-unfolding is_told
+unfolding is_sent
 unanswered es l = each_legal (λ book. (j : ℕ) → is_closed j book ≡ false → IsUnanswered book j) first step es l
   where
     first : (j : ℕ) → is_closed j [] ≡ false → IsUnanswered [] j
-    first j u = record { untold = λ place. refl; there = refl }
+    first j u = record { unsent = λ index. refl; there = refl }
 
     step : (book : List Entry) (e : Entry) → IsLegal book → MayFollow book e → ((j : ℕ) → is_closed j book ≡ false → IsUnanswered book j) → (j : ℕ) → is_closed j (book ++ e ∷ []) ≡ false → IsUnanswered (book ++ e ∷ []) j
     step book e h m was j u =
         let before = unclosed_before j book (e ∷ []) u in
         let w = was j before in
         record {
-          untold = λ place. told_either j place book (e ∷ []) ∙ left_false (is_told j place book) (is_told j place (e ∷ [])) (w.untold place) (no_answer book e m.due j place before);
+          unsent = λ index. sent_either j index book (e ∷ []) ∙ left_false (is_sent j index book) (is_sent j index (e ∷ [])) (w.unsent index) (no_answer book e m.due j index before);
           there = gone_either j book (e ∷ []) ∙ left_false (is_one_of j (tickets_gone book)) (is_one_of j (tickets_gone (e ∷ []))) w.there (not_gone book e m.due j before);
         }
 
@@ -106,20 +109,20 @@ new_is_unclosed es j s n = go (is_closed j es) refl
 
 -- ---- what is kept free for one job
 
-cost_parts : (es : List Entry) (j : ℕ) (b : Bool) (n : ℕ) (k : Bool) → is_closed j es ≡ b → length (untold j es) ≡ n → keeps_ticket j es ≡ k → cost es j ≡ 8388608 * one_if (not b) + 64 * n + 64 * one_if k
+cost_parts : (es : List Entry) (j : ℕ) (b : Bool) (n : ℕ) (k : Bool) → is_closed j es ≡ b → length (unsent j es) ≡ n → keeps_ticket j es ≡ k → cost es j ≡ 8388608 * one_if (not b) + 64 * n + 64 * one_if k
 unfolding cost
 cost_parts es j b n k p q r =
-    ap (λ x. 8388608 * one_if (not x) + 64 * length (untold j es) + 64 * one_if (keeps_ticket j es)) p
+    ap (λ x. 8388608 * one_if (not x) + 64 * length (unsent j es) + 64 * one_if (keeps_ticket j es)) p
     ∙ ap (λ x. 8388608 * one_if (not b) + 64 * x + 64 * one_if (keeps_ticket j es)) q
     ∙ ap (λ x. 8388608 * one_if (not b) + 64 * n + 64 * one_if x) r
 
 pub unclosed_cost : (es : List Entry) (j : ℕ) → is_closed j es ≡ false → cost es j ≡ 8388608
-unfolding untold owed_of
+unfolding unsent owed_of
 unclosed_cost es j u =
     let p = neither (is_held j es) (is_done j es) u in
     let h = nothing_held j es p.0 in
     let d = nothing_ended j es p.1 in
-    let n : length (untold j es) ≡ 0 = rw (h, d) refl in
+    let n : length (unsent j es) ≡ 0 = rw (h, d) refl in
     let k : keeps_ticket j es ≡ false = ap (λ b. b && (is_ticket_open j es && not (is_ticket_gone j es))) u in
     cost_parts es j false 0 false u n k
 
@@ -132,13 +135,13 @@ ticket_bytes true = refl
 ticket_bytes false = refl
 
 -- just closed
-closed_cost : (es : List Entry) (j : ℕ) (owed : List Subscriber) (t g : Bool) → is_closed j es ≡ true → owed_of j es ≡ owed → ((place : ℕ) → is_told j place es ≡ false) → is_ticket_open j es ≡ t → is_ticket_gone j es ≡ g
+closed_cost : (es : List Entry) (j : ℕ) (owed : List Subscriber) (t g : Bool) → is_closed j es ≡ true → owed_of j es ≡ owed → ((index : ℕ) → is_sent j index es ≡ false) → is_ticket_open j es ≡ t → is_ticket_gone j es ≡ g
     → cost es j ≡ 64 * length owed + for_ticket (t && not g)
-unfolding untold
+unfolding unsent
 closed_cost es j owed t g c o n a b =
-    let count : length (untold j es) ≡ length owed =
-    ap (λ os. length (filter (λ place. not (is_told j place es)) (range_with_len 0 (length os)))) o
-    ∙ ap length (all_pass (λ place. not (is_told j place es)) (range_with_len 0 (length owed)) (λ place. ap not (n place)))
+    let count : length (unsent j es) ≡ length owed =
+    ap (λ os. length (filter (λ index. not (is_sent j index es)) (range_with_len 0 (length os)))) o
+    ∙ ap length (all_pass (λ index. not (is_sent j index es)) (range_with_len 0 (length owed)) (λ index. ap not (n index)))
     ∙ length-range_with_len 0 (length owed) in
     let keeps : keeps_ticket j es ≡ (t && not g) =
     ap (λ x. x && (is_ticket_open j es && not (is_ticket_gone j es))) c ∙ ap (λ x. x && not (is_ticket_gone j es)) a ∙ ap (λ x. t && not x) b in
@@ -151,10 +154,10 @@ and_true_end true = refl
 and_true_end false = refl
 
 held_cost : (es : List Entry) (x : Holding) → IsLegal es → is_closed x.job es ≡ false
-    → cost (es ++ Held x.job x.tag x.ovn x.version x.owed ∷ []) x.job ≡ 64 * length x.owed + for_ticket (is_ticket_open x.job es)
+    → cost (es ++ Held x ∷ []) x.job ≡ 64 * length x.owed + for_ticket (is_ticket_open x.job es)
 unfolding owed_of is_ticket_gone
 held_cost es x l u =
-    let e : Entry = Held x.job x.tag x.ovn x.version x.owed in
+    let e : Entry = Held x in
     let p = neither (is_held x.job es) (is_done x.job es) u in
     let w = unanswered es l x.job u in
     let done : is_done x.job (es ++ e ∷ []) ≡ false = done_still x.job es e refl ∙ p.1 in
@@ -163,14 +166,14 @@ held_cost es x l u =
     let found : holding_of x.job (es ++ e ∷ []) ≡ Some x = held_now es x (nothing_held x.job es p.0) in
     let owed : owed_of x.job (es ++ e ∷ []) ≡ x.owed = rw found refl in
     let gone : is_ticket_gone x.job (es ++ e ∷ []) ≡ false = rw (gone_still x.job es e refl, w.there, done) refl in
-    closed_cost (es ++ e ∷ []) x.job x.owed (is_ticket_open x.job es) false closed owed (λ place. told_still x.job place es e refl ∙ w.untold place) (ticket_still x.job es e refl) gone
+    closed_cost (es ++ e ∷ []) x.job x.owed (is_ticket_open x.job es) false closed owed (λ index. sent_still x.job index es e refl ∙ w.unsent index) (ticket_still x.job es e refl) gone
     ∙ ap (λ b. 64 * length x.owed + for_ticket b) (and_true_end (is_ticket_open x.job es))
 
 done_cost : (es : List Entry) (x : Closing) → IsLegal es → is_closed x.job es ≡ false
-    → cost (es ++ Done x.job x.end ∷ []) x.job ≡ 64 * length (owed_at_end x.end) + for_ticket (is_ticket_open x.job es && not (is_some (decision_of x.job es)))
+    → cost (es ++ Done x ∷ []) x.job ≡ 64 * length (owed_at_end x.end) + for_ticket (is_ticket_open x.job es && not (is_some (decision_of x.job es)))
 unfolding owed_of is_ticket_gone
 done_cost es x l u =
-    let e : Entry = Done x.job x.end in
+    let e : Entry = Done x in
     let p = neither (is_held x.job es) (is_done x.job es) u in
     let w = unanswered es l x.job u in
     let done : is_done x.job (es ++ e ∷ []) ≡ true = done_either x.job es (e ∷ []) ∙ right_true (is_done x.job es) (is_done x.job (e ∷ [])) (ends_it x.job x.end) in
@@ -179,7 +182,7 @@ done_cost es x l u =
     let found : ending_of x.job (es ++ e ∷ []) ≡ Some x = ended_now es x (nothing_ended x.job es p.1) in
     let owed : owed_of x.job (es ++ e ∷ []) ≡ owed_at_end x.end = rw (none, found) refl in
     let gone : is_ticket_gone x.job (es ++ e ∷ []) ≡ is_some (decision_of x.job es) = rw (gone_still x.job es e refl, w.there, done, decision_still x.job es e refl) refl in
-    closed_cost (es ++ e ∷ []) x.job (owed_at_end x.end) (is_ticket_open x.job es) (is_some (decision_of x.job es)) closed owed (λ place. told_still x.job place es e refl ∙ w.untold place) (ticket_still x.job es e refl) gone
+    closed_cost (es ++ e ∷ []) x.job (owed_at_end x.end) (is_ticket_open x.job es) (is_some (decision_of x.job es)) closed owed (λ index. sent_still x.job index es e refl ∙ w.unsent index) (ticket_still x.job es e refl) gone
 
 gone_cost : (es : List Entry) (j : ℕ) → MayRetire es j → cost es j ≡ cost (es ++ TicketGone j ∷ []) j + 64
 unfolding is_ticket_gone
@@ -193,38 +196,38 @@ gone_cost es j d =
     ap (λ b. b && (is_ticket_open j (es ++ e ∷ []) && not (is_ticket_gone j (es ++ e ∷ [])))) closed
     ∙ ap (λ b. b && not (is_ticket_gone j (es ++ e ∷ []))) ticket
     ∙ ap (λ b. not (b || (is_done j (es ++ e ∷ []) && is_some (decision_of j (es ++ e ∷ []))))) gone in
-    let a = cost_parts es j true (length (untold j es)) true d.closed refl before in
-    let b = cost_parts (es ++ e ∷ []) j true (length (untold j es)) false closed (ap length (untold_still j es e refl refl refl)) now in
+    let a = cost_parts es j true (length (unsent j es)) true d.closed refl before in
+    let b = cost_parts (es ++ e ∷ []) j true (length (unsent j es)) false closed (ap length (unsent_still j es e refl refl refl)) now in
     omega (arith, a, b)
 
-sent_cost : (es : List Entry) (j p : ℕ) → MayTell es j p → cost es j ≡ cost (es ++ Sent j p ∷ []) j + 64
-unfolding untold
+sent_cost : (es : List Entry) (j p : ℕ) → MaySend es j p → cost es j ≡ cost (es ++ Sent (record { job = j; index = p }) ∷ []) j + 64
+unfolding unsent
 sent_cost es j p d =
-    let e : Entry = Sent j p in
+    let e : Entry = Sent (record { job = j; index = p }) in
     let closed : is_closed j (es ++ e ∷ []) ≡ true = closed_still j es e refl refl ∙ d.closed in
     let n = length (owed_of j es) in
-    let fewer : untold j (es ++ e ∷ []) ≡ filter (λ x. not (is_told j x es || (p == x))) (range_with_len 0 n) =
-    ap (λ owed. filter (λ x. not (is_told j x (es ++ e ∷ []))) (range_with_len 0 (length owed))) (owed_still j es e refl refl)
-    ∙ filters_agree (λ x. not (is_told j x (es ++ e ∷ []))) (λ x. not (is_told j x es || (p == x))) (range_with_len 0 n)
-    (λ x. ap not (told_either j x es (e ∷ []) ∙ ap (λ b. is_told j x es || b) (tells_it j p x))) in
-    let less = one_less (λ x. is_told j x es) p 0 n (omega arith) (let lt : p < length (owed_of j es) = d.owed in omega (arith, lt)) d.new in
+    let fewer : unsent j (es ++ e ∷ []) ≡ filter (λ x. not (is_sent j x es || (p == x))) (range_with_len 0 n) =
+    ap (λ owed. filter (λ x. not (is_sent j x (es ++ e ∷ []))) (range_with_len 0 (length owed))) (owed_still j es e refl refl)
+    ∙ filters_agree (λ x. not (is_sent j x (es ++ e ∷ []))) (λ x. not (is_sent j x es || (p == x))) (range_with_len 0 n)
+    (λ x. ap not (sent_either j x es (e ∷ []) ∙ ap (λ b. is_sent j x es || b) (sends_it j p x))) in
+    let less = one_less (λ x. is_sent j x es) p 0 n (omega arith) (let lt : p < length (owed_of j es) = d.owed in omega (arith, lt)) d.new in
     let keeps : keeps_ticket j (es ++ e ∷ []) ≡ keeps_ticket j es =
     ap (λ b. b && (is_ticket_open j (es ++ e ∷ []) && not (is_ticket_gone j (es ++ e ∷ [])))) (closed_still j es e refl refl)
     ∙ ap (λ b. is_closed j es && (b && not (is_ticket_gone j (es ++ e ∷ [])))) (ticket_still j es e refl)
     ∙ ap (λ b. is_closed j es && (is_ticket_open j es && not b)) (ticket_gone_still j es e refl refl refl) in
-    let a = cost_parts es j true (length (untold j es)) (keeps_ticket j es) d.closed refl refl in
-    let b = cost_parts (es ++ e ∷ []) j true (length (filter (λ x. not (is_told j x es || (p == x))) (range_with_len 0 n))) (keeps_ticket j es) closed (ap length fewer) keeps in
+    let a = cost_parts es j true (length (unsent j es)) (keeps_ticket j es) d.closed refl refl in
+    let b = cost_parts (es ++ e ∷ []) j true (length (filter (λ x. not (is_sent j x es || (p == x))) (range_with_len 0 n))) (keeps_ticket j es) closed (ap length fewer) keeps in
     omega (arith, a, b, less)
 
 -- ---- the sum
 
 need_is : (es : List Entry) → need es ≡ sum_by (λ o. cost es o.job) (openings es)
 unfolding need cost
-need_is es = counts_are_sums (λ (o : Opening). not (is_closed o.job es)) (λ (o : Opening). keeps_ticket o.job es) (λ (o : Opening). length (untold o.job es)) (openings es)
+need_is es = counts_are_sums (λ (o : Opening). not (is_closed o.job es)) (λ (o : Opening). keeps_ticket o.job es) (λ (o : Opening). length (unsent o.job es)) (openings es)
 
-need_opened : (es : List Entry) (o : Opening) → IsOrderly es → MayOpen es o.job o.ask → need (es ++ Opened o.job o.moment o.ask ∷ []) ≡ need es + 8388608
+need_opened : (es : List Entry) (o : Opening) → IsOrderly es → MayOpen es o.job o.ask → need (es ++ Opened o ∷ []) ≡ need es + 8388608
 need_opened es o s d =
-    let e : Entry = Opened o.job o.moment o.ask in
+    let e : Entry = Opened o in
     let all : sum_by (λ (p : Opening). cost (es ++ e ∷ []) p.job) (openings (es ++ e ∷ [])) ≡ sum_by (λ (p : Opening). cost (es ++ e ∷ []) p.job) (openings es) + cost (es ++ e ∷ []) o.job =
     ap (λ (os : List Opening). sum_by (λ (p : Opening). cost (es ++ e ∷ []) p.job) os) (openings_append es (e ∷ [])) ∙ sum_by_push (λ (p : Opening). cost (es ++ e ∷ []) p.job) (openings es) o in
     let old = sums_agree (cost es) (cost (es ++ e ∷ [])) (openings es)
@@ -268,34 +271,34 @@ need_still es e none of =
 -- the bytes that are kept free grow by what the entry takes, and fall by what it releases
 pub need_grows : (es : List Entry) (e : Entry) → IsLegal es → IsDue es e → need (es ++ e ∷ []) + released e ≡ need es + taken es e
 need_grows es (Enters.Owner owner) l m = let a = need_still es (Enters.Owner owner) refl (λ x. refl) in omega (arith, a)
-need_grows es (Opened job moment ask) l m = let a = need_opened es (record { job = job; moment = moment; ask = ask }) (legal_is_orderly es l) m in omega (arith, a)
+need_grows es (Opened o) l m = let a = need_opened es o (legal_is_orderly es l) m in omega (arith, a)
 need_grows es (TicketOpen job) l m =
     let a = need_kept es (TicketOpen job) job m.opening l refl (λ x n. n) m.unfinished.opened m.unfinished.unclosed refl refl in omega (arith, a)
-need_grows es (Pending job tag alternative previous key) l m =
-    let a = need_kept es (Pending job tag alternative previous key) job m.opening l refl (λ x n. n) m.unfinished.opened m.unfinished.unclosed refl refl in omega (arith, a)
-need_grows es (Deciding job end) l m =
-    let a = need_kept es (Deciding job end) job m.opening l refl (λ x n. n) m.unfinished.opened m.unfinished.unclosed refl refl in omega (arith, a)
-need_grows es (Held job tag ovn version owed) l m =
-    let o = open_parts es job m.unfinished in
-    let has = opening_has es job o.0 o.1 in
-    let x : Holding = record { job = job; tag = tag; ovn = ovn; version = version; owed = owed } in
-    let c = need_changed es (Held job tag ovn version owed) job o.0 l refl (λ x n. n) has.0 has.1 in
-    let a = unclosed_cost es job o.2 in
+need_grows es (Pending t) l m =
+    let a = need_kept es (Pending t) t.job m.opening l refl (λ x n. n) m.unfinished.opened m.unfinished.unclosed refl refl in omega (arith, a)
+need_grows es (Deciding d) l m =
+    let a = need_kept es (Deciding d) d.job m.opening l refl (λ x n. n) m.unfinished.opened m.unfinished.unclosed refl refl in omega (arith, a)
+need_grows es (Held h) l m =
+    let o = open_parts es h.job m.unfinished in
+    let has = opening_has es h.job o.0 o.1 in
+    let x : Holding = h in
+    let c = need_changed es (Held h) h.job o.0 l refl (λ x n. n) has.0 has.1 in
+    let a = unclosed_cost es h.job o.2 in
     let b = held_cost es x l o.2 in
     omega (arith, a, b, c)
-need_grows es (Done job end) l m =
-    let has = opening_has es job m.opening m.opened in
-    let c = need_changed es (Done job end) job m.opening l refl (λ x n. n) has.0 has.1 in
-    let a = unclosed_cost es job m.unclosed in
-    let b = done_cost es (record { job = job; end = end }) l m.unclosed in
+need_grows es (Done d) l m =
+    let has = opening_has es d.job m.opening m.opened in
+    let c = need_changed es (Done d) d.job m.opening l refl (λ x n. n) has.0 has.1 in
+    let a = unclosed_cost es d.job m.unclosed in
+    let b = done_cost es d l m.unclosed in
     omega (arith, a, b, c)
 need_grows es (TicketGone job) l m =
     let o = closed_is_opened es job (legal_is_orderly es l) m.closed in
     let c = need_changed es (TicketGone job) job o.0 l refl (λ x n. n) o.1 o.2 in
     let a = gone_cost es job m in
     omega (arith, a, c)
-need_grows es (Sent job place) l m =
-    let o = closed_is_opened es job (legal_is_orderly es l) m.closed in
-    let c = need_changed es (Sent job place) job o.0 l refl (λ x n. n) o.1 o.2 in
-    let a = sent_cost es job place m in
+need_grows es (Sent sending) l m =
+    let o = closed_is_opened es sending.job (legal_is_orderly es l) m.closed in
+    let c = need_changed es (Sent sending) sending.job o.0 l refl (λ x n. n) o.1 o.2 in
+    let a = sent_cost es sending.job sending.index m in
     omega (arith, a, c)

@@ -6,8 +6,9 @@ use Rattle.uss_event.specs.declared.entries.Entry.TheVariants.{Opened}
 use Rattle.uss_law_dss.specs.Lists.{Has}
 use Rattle.uss_law_dss.proofs.Lists.{find_has, has_filter, has_passed}
 use Rattle.uss_law_dss.proofs.Tests.{same_number, not_true, some_same}
-use Rattle.uss_law_book.specs.Lists.{Opening, openings}
-use Rattle.uss_law_book.specs.Readings.{is_closed, jobs_of, open_job_of, greater, greatest, last_of}
+use Rattle.uss_event.specs.declared.entries.Opening.{Opening}
+use Rattle.uss_law_book.specs.Lists.{openings}
+use Rattle.uss_law_book.specs.Contents.{is_closed, jobs_of, open_job_of, greater, greatest, last_of}
 use Rattle.uss_law_book.specs.Legal.{IsDue, MayFollow, IsLegal}
 use Rattle.uss_law_book.specs.Orderly.{IsOrderly}
 use Rattle.uss_law_book.proofs.Entries.{which_opening, unclosed_before}
@@ -22,14 +23,14 @@ abbrev IsLastOpen : List Entry → Type 0
 IsLastOpen es = (o : Opening) → Has (openings es) o → is_closed o.job es ≡ false → last_of o.ask.flight es ≡ Some o
 
 old_is_last : (es : List Entry) (e : Entry) → IsOrderly es → IsDue es e → IsLastOpen es → (o : Opening) → Has (openings es) o → is_closed o.job (es ++ e ∷ []) ≡ false → last_of o.ask.flight (es ++ e ∷ []) ≡ Some o
-old_is_last es (Opened job moment ask) s d was o h u =
-    let before = unclosed_before o.job es (Opened job moment ask ∷ []) u in
-    last_else o.ask.flight es (Opened job moment ask) (λ p k. other p k (p.ask.flight == o.ask.flight) refl before) ∙ was o h before
+old_is_last es (Opened opening) s d was o h u =
+    let before = unclosed_before o.job es (Opened opening ∷ []) u in
+    last_else o.ask.flight es (Opened opening) (λ p k. other p k (p.ask.flight == o.ask.flight) refl before) ∙ was o h before
   where
-    other : (p : Opening) → Has (record { job = job; moment = moment; ask = ask } ∷ []) p → (b : Bool) → (p.ask.flight == o.ask.flight) ≡ b → is_closed o.job es ≡ false → b ≡ false
+    other : (p : Opening) → Has (opening ∷ []) p → (b : Bool) → (p.ask.flight == o.ask.flight) ≡ b → is_closed o.job es ≡ false → b ≡ false
     other p (inl q) true e v =
-        let same : o.ask.flight ≡ ask.flight = sym (ap (λ (x : Opening). x.ask.flight) q ∙ same_number p.ask.flight o.ask.flight e) in
-        let c = each_is_closed es ask.flight o d.free h same in
+        let same : o.ask.flight ≡ opening.ask.flight = sym (ap (λ (x : Opening). x.ask.flight) q ∙ same_number p.ask.flight o.ask.flight e) in
+        let c = each_is_closed es opening.ask.flight o d.free h same in
         absurd (let t : true ≡ false = sym c ∙ v in cc)
     other p (inr n) true e v = absurd n
     other p k false e v = refl
@@ -37,9 +38,9 @@ old_is_last es e s d was o h u =
     last_else o.ask.flight es e (λ p k. absurd k) ∙ was o h (unclosed_before o.job es (e ∷ []) u)
 
 new_is_last : (es : List Entry) (e : Entry) → IsDue es e → (o : Opening) → Has (openings (e ∷ [])) o → last_of o.ask.flight (es ++ e ∷ []) ≡ Some o
-new_is_last es (Opened job moment ask) d o (inl q) =
-    subst (λ (x : Opening). last_of x.ask.flight (es ++ Opened job moment ask ∷ []) ≡ Some x) q (last_new es (record { job = job; moment = moment; ask = ask }) d)
-new_is_last es (Opened job moment ask) d o (inr n) = absurd n
+new_is_last es (Opened opening) d o (inl q) =
+    subst (λ (x : Opening). last_of x.ask.flight (es ++ Opened opening ∷ []) ≡ Some x) q (last_new es opening d)
+new_is_last es (Opened opening) d o (inr n) = absurd n
 new_is_last es _ d o h = absurd h
 
 pub last_is_open : (es : List Entry) → IsLegal es → IsLastOpen es

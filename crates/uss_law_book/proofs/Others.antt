@@ -11,22 +11,24 @@ use Rattle.uss_event.specs.declared.entries.Entry.TheVariants.{Opened, TicketOpe
 use Rattle.uss_event.specs.declared.entries.Entry.TheVariants as Enters
 use Rattle.uss_law_dss.specs.Lists.{Has}
 use Rattle.uss_law_dss.proofs.Lists.{has_append}
-use Rattle.uss_law_book.specs.Lists.{Trial, Closing, tickets_opened, trials, decisions}
-use Rattle.uss_law_book.specs.Readings.{is_held, is_done, is_closed, is_ticket_open, decision_of, trials_of}
+use Rattle.uss_event.specs.declared.entries.Trial.{Trial}
+use Rattle.uss_event.specs.declared.entries.Closing.{Closing}
+use Rattle.uss_law_book.specs.Lists.{tickets_opened, trials, decisions}
+use Rattle.uss_law_book.specs.Contents.{is_held, is_done, is_closed, is_ticket_open, decision_of, trials_of}
 use Rattle.uss_law_book.proofs.Finds.{or_false, or_none}
 use Rattle.uss_law_book.proofs.Entries.{trials_append, closed_by_either}
 
 -- the entry is one of the job
 abbrev pub is_of_job : ℕ → Entry → Bool
 is_of_job i (Enters.Owner owner) = false
-is_of_job i (Opened job moment ask) = job == i
+is_of_job i (Opened o) = o.job == i
 is_of_job i (TicketOpen job) = job == i
-is_of_job i (Pending job tag alternative previous key) = job == i
-is_of_job i (Held job tag ovn version owed) = job == i
-is_of_job i (Deciding job end) = job == i
-is_of_job i (Done job end) = job == i
+is_of_job i (Pending t) = t.job == i
+is_of_job i (Held h) = h.job == i
+is_of_job i (Deciding d) = d.job == i
+is_of_job i (Done d) = d.job == i
 is_of_job i (TicketGone job) = job == i
-is_of_job i (Sent job place) = job == i
+is_of_job i (Sent n) = n.job == i
 
 pub tickets_append : (xs ys : List Entry) → tickets_opened (xs ++ ys) ≡ tickets_opened xs ++ tickets_opened ys
 tickets_append [] ys = refl
@@ -35,7 +37,7 @@ tickets_append (_ ∷ xs) ys = tickets_append xs ys
 
 pub decisions_append : (xs ys : List Entry) → decisions (xs ++ ys) ≡ decisions xs ++ decisions ys
 decisions_append [] ys = refl
-decisions_append (Deciding job end ∷ xs) ys = ap (λ (l : List Closing). record { job = job; end = end } ∷ l) (decisions_append xs ys)
+decisions_append (Deciding d ∷ xs) ys = ap (λ (l : List Closing). d ∷ l) (decisions_append xs ys)
 decisions_append (_ ∷ xs) ys = decisions_append xs ys
 
 pub which_ticket : (xs ys : List Entry) (job : ℕ) → Has (tickets_opened (xs ++ ys)) job → Has (tickets_opened xs) job ⊎ Has (tickets_opened ys) job
@@ -46,8 +48,8 @@ which_decision xs ys d h = has_append (decisions xs) (decisions ys) d (subst (λ
 
 unclosed_of : (i : ℕ) (e : Entry) → is_of_job i e ≡ false → is_closed i (e ∷ []) ≡ false
 unfolding is_held is_done
-unclosed_of i (Held job tag ovn version owed) h = rw h refl
-unclosed_of i (Done job end) h = rw h refl
+unclosed_of i (Held holding) h = rw h refl
+unclosed_of i (Done d) h = rw h refl
 unclosed_of i _ h = refl
 
 pub closed_same : (i : ℕ) (book : List Entry) (e : Entry) → is_of_job i e ≡ false → is_closed i (book ++ e ∷ []) ≡ is_closed i book
@@ -66,7 +68,7 @@ unfolding is_ticket_open
 ticket_same i book e h = ticket_either i book (e ∷ []) ∙ ap (λ b. is_ticket_open i book || b) (unticketed_of i e h) ∙ or_false (is_ticket_open i book)
 
 none_decided : (i : ℕ) (e : Entry) → is_of_job i e ≡ false → find (λ (d : Closing). d.job == i) (decisions (e ∷ [])) ≡ None
-none_decided i (Deciding job end) h = rw h refl
+none_decided i (Deciding d) h = rw h refl
 none_decided i _ h = refl
 
 pub decision_same : (i : ℕ) (book : List Entry) (e : Entry) → is_of_job i e ≡ false → decision_of i (book ++ e ∷ []) ≡ decision_of i book
@@ -78,7 +80,7 @@ decision_same i book e h =
 
 untried_of : (i : ℕ) (e : Entry) → is_of_job i e ≡ false → trials_of i (e ∷ []) ≡ []
 unfolding trials_of
-untried_of i (Pending job tag alternative previous key) h = rw h refl
+untried_of i (Pending t) h = rw h refl
 untried_of i _ h = refl
 
 pub trials_either : (i : ℕ) (xs ys : List Entry) → trials_of i (xs ++ ys) ≡ trials_of i xs ++ trials_of i ys

@@ -6,8 +6,8 @@ use Rattle.uss_event.specs.declared.entries.Owner.{Owner}
 use Rattle.uss_event.specs.declared.entries.Entry.{Entry}
 use Rattle.uss_event.specs.declared.entries.Entry.TheVariants.{Opened, TicketOpen, Pending, Held, Deciding, Done, TicketGone, Sent}
 use Rattle.uss_event.specs.declared.entries.Entry.TheVariants as Enters
-use Rattle.uss_law_book.specs.Lists.{Opening}
-use Rattle.uss_law_book.specs.Readings.{opening_of, is_closed, is_ticket_open, decision_of, trials_of}
+use Rattle.uss_event.specs.declared.entries.Opening.{Opening}
+use Rattle.uss_law_book.specs.Contents.{opening_of, is_closed, is_ticket_open, decision_of, trials_of}
 use Rattle.uss_law_book.specs.Coding.{IsOwner, HasCoding, record_length, journal_length}
 use Rattle.uss_law_book.specs.Reserve.{journal_limit, need, is_reserved, settled, reserved, ReserveCovers}
 use Rattle.uss_law_book.specs.Legal.{MayOpen, IsDue, is_owner, is_new, MayFollow, IsLegal}
@@ -77,32 +77,32 @@ owner_room [] o c h = let n = owner_length o c in omega (arith, n)
 owner_room (e ∷ es) o c h = cc
 
 -- a job's record and what is kept free for it
-opened_room : (es : List Entry) (job : ℕ) (moment : ℤ) (ask : FlightAsk) → IsLegal es → MayOpen es job ask → reserved (es ++ Opened job moment ask ∷ []) ≡ reserved es + 8388608 + record_length (Opened job moment ask)
+opened_room : (es : List Entry) (job : ℕ) (moment : ℤ) (ask : FlightAsk) → IsLegal es → MayOpen es job ask → reserved (es ++ Opened (record { job = job; moment = moment; ask = ask }) ∷ []) ≡ reserved es + 8388608 + record_length (Opened (record { job = job; moment = moment; ask = ask }))
 unfolding reserved
 opened_room es job moment ask l d =
-    let g = need_grows es (Opened job moment ask) l d in
-    let s = settled_grows es (Opened job moment ask) l d in
+    let g = need_grows es (Opened (record { job = job; moment = moment; ask = ask })) l d in
+    let s = settled_grows es (Opened (record { job = job; moment = moment; ask = ask })) l d in
     omega (arith, g, s)
 
 room_of : (es : List Entry) (e : Entry) → IsLegal es → is_owner e ≡ is_new es → IsDue es e → HasCoding e → IsSpared es e → ReserveCovers (es ++ e ∷ [])
 room_of es (Enters.Owner owner) l first d c f = owner_room es owner c first
-room_of es (Opened job moment ask) l first d c f = let r = opened_room es job moment ask l d in omega (arith, r, f)
+room_of es (Opened o) l first d c f = let r = opened_room es o.job o.moment o.ask l d in omega (arith, r, f)
 room_of es (TicketOpen job) l first d c f = covered_by es (TicketOpen job) l d (omega arith)
-room_of es (Pending job tag alternative previous key) l first d c f = covered_by es (Pending job tag alternative previous key) l d (omega arith)
-room_of es (Held job tag ovn version owed) l first d c f =
-    let p = open_parts es job d.unfinished in
-    let b = open_bytes es job p.0 l p.1 p.2 in
-    let n = held_length job tag ovn version owed c in
-    let k = few_kept (is_ticket_open job es) in
-    covered_by es (Held job tag ovn version owed) l d (omega (arith, b, n, k))
-room_of es (Deciding job end) l first d c f = covered_by es (Deciding job end) l d (omega arith)
-room_of es (Done job end) l first d c f =
-    let b = open_bytes es job d.opening l d.opened d.unclosed in
-    let n = done_length job end c.1 in
-    let k = few_kept (is_ticket_open job es && not (is_some (decision_of job es))) in
-    covered_by es (Done job end) l d (omega (arith, b, n, k))
+room_of es (Pending t) l first d c f = covered_by es (Pending t) l d (omega arith)
+room_of es (Held h) l first d c f =
+    let p = open_parts es h.job d.unfinished in
+    let b = open_bytes es h.job p.0 l p.1 p.2 in
+    let n = held_length h.job h.tag h.ovn h.version h.owed c in
+    let k = few_kept (is_ticket_open h.job es) in
+    covered_by es (Held h) l d (omega (arith, b, n, k))
+room_of es (Deciding decision) l first d c f = covered_by es (Deciding decision) l d (omega arith)
+room_of es (Done ending) l first d c f =
+    let b = open_bytes es ending.job d.opening l d.opened d.unclosed in
+    let n = done_length ending.job ending.end c.1 in
+    let k = few_kept (is_ticket_open ending.job es && not (is_some (decision_of ending.job es))) in
+    covered_by es (Done ending) l d (omega (arith, b, n, k))
 room_of es (TicketGone job) l first d c f = covered_by es (TicketGone job) l d (omega arith)
-room_of es (Sent job place) l first d c f = covered_by es (Sent job place) l d (omega arith)
+room_of es (Sent n) l first d c f = covered_by es (Sent n) l d (omega arith)
 
 pub legal_books_keep_room : LegalBooksKeepRoom
 legal_books_keep_room book e l n = room_of book e l n.first n.due n.coding n.spared
@@ -111,13 +111,13 @@ pub next_follows : (book : List Entry) (e : Entry) → IsLegal book → IsNext b
 next_follows book e l n = record { first = n.first; coding = n.coding; due = n.due; room_before = covered book l; room_after = legal_books_keep_room book e l n }
 
 spared_then : (book : List Entry) (e : Entry) → IsLegal book → IsDue book e → ReserveCovers (book ++ e ∷ []) → IsSpared book e
-spared_then book (Opened job moment ask) l d r = let s = opened_room book job moment ask l d in omega (arith, s, r)
+spared_then book (Opened o) l d r = let s = opened_room book o.job o.moment o.ask l d in omega (arith, s, r)
 spared_then book _ l d r = tt
 
 pub follower_is_next : (book : List Entry) (e : Entry) → IsLegal book → MayFollow book e → IsNext book e
 follower_is_next book e l m = record { first = m.first; coding = m.coding; due = m.due; spared = spared_then book e l m.due m.room_after }
 
 -- a job that has room beside all records has it beside those that are settled
-pub spared_beside_all : (book : List Entry) (job : ℕ) (moment : ℤ) (ask : FlightAsk) → journal_length book + need book + 8388608 + record_length (Opened job moment ask) ≤ journal_limit → IsSpared book (Opened job moment ask)
+pub spared_beside_all : (book : List Entry) (job : ℕ) (moment : ℤ) (ask : FlightAsk) → journal_length book + need book + 8388608 + record_length (Opened (record { job = job; moment = moment; ask = ask })) ≤ journal_limit → IsSpared book (Opened (record { job = job; moment = moment; ask = ask }))
 unfolding reserved
 spared_beside_all book job moment ask h = let l = settled_less book in omega (arith, h, l)

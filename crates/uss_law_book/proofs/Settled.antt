@@ -9,8 +9,9 @@ use Rattle.uss_event.specs.declared.entries.Entry.TheVariants as Enters
 use Rattle.uss_law_dss.specs.Lists.{Has}
 use Rattle.uss_law_dss.proofs.Lists.{has_append}
 use Rattle.uss_law_dss.proofs.Tests.{same_number, equal_number, unequal_number, right_true, not_both}
-use Rattle.uss_law_book.specs.Lists.{Opening, openings, holdings, endings}
-use Rattle.uss_law_book.specs.Readings.{opening_of, is_held, is_done, is_closed, is_open}
+use Rattle.uss_event.specs.declared.entries.Opening.{Opening}
+use Rattle.uss_law_book.specs.Lists.{openings, holdings, endings}
+use Rattle.uss_law_book.specs.Contents.{opening_of, is_held, is_done, is_closed, is_open}
 use Rattle.uss_law_book.specs.Coding.{record_length, journal_length}
 use Rattle.uss_law_book.specs.Reserve.{is_reserved, settled}
 use Rattle.uss_law_book.specs.Legal.{IsDue, MayFollow, IsLegal}
@@ -29,29 +30,29 @@ use Rattle.uss_law_book.proofs.Needed.{closed_is_opened}
 -- the entry is one of a job after its opening
 abbrev pub is_later : Entry → Bool
 is_later (Enters.Owner owner) = false
-is_later (Opened job moment ask) = false
+is_later (Opened o) = false
 is_later _ = true
 
 -- whether the bytes are among those kept free for an open job
 reserved_by : (es : List Entry) (e : Entry) (j : ℕ) → is_of_job j e ≡ true → is_reserved es e ≡ (is_later e && is_open j es)
 reserved_by es (Enters.Owner owner) j h = refl
-reserved_by es (Opened job moment ask) j h = refl
+reserved_by es (Opened o) j h = refl
 reserved_by es (TicketOpen job) j h = ap (λ n. is_open n es) (same_number job j h)
-reserved_by es (Pending job tag alternative previous key) j h = ap (λ n. is_open n es) (same_number job j h)
-reserved_by es (Held job tag ovn version owed) j h = ap (λ n. is_open n es) (same_number job j h)
-reserved_by es (Deciding job end) j h = ap (λ n. is_open n es) (same_number job j h)
-reserved_by es (Done job end) j h = ap (λ n. is_open n es) (same_number job j h)
+reserved_by es (Pending t) j h = ap (λ n. is_open n es) (same_number t.job j h)
+reserved_by es (Held holding) j h = ap (λ n. is_open n es) (same_number holding.job j h)
+reserved_by es (Deciding d) j h = ap (λ n. is_open n es) (same_number d.job j h)
+reserved_by es (Done d) j h = ap (λ n. is_open n es) (same_number d.job j h)
 reserved_by es (TicketGone job) j h = ap (λ n. is_open n es) (same_number job j h)
-reserved_by es (Sent job place) j h = ap (λ n. is_open n es) (same_number job j h)
+reserved_by es (Sent sending) j h = ap (λ n. is_open n es) (same_number sending.job j h)
 
 unreserved : (es : List Entry) (e : Entry) → is_later e ≡ false → is_reserved es e ≡ false
 unreserved es (Enters.Owner owner) h = refl
-unreserved es (Opened job moment ask) h = refl
+unreserved es (Opened o) h = refl
 unreserved es _ h = cc
 
 later_by : (job : ℕ) (e : Entry) → is_later_of job e ≡ (is_later e && is_of_job job e)
 later_by job (Enters.Owner owner) = refl
-later_by job (Opened j moment ask) = refl
+later_by job (Opened o) = refl
 later_by job _ = refl
 
 -- ---- each entry after an opening is of a job that was opened
@@ -67,14 +68,14 @@ of_closed es job s c = let i = closed_is_opened es job s c in (i.0, i.1, equal_n
 
 pub opened_before : (es : List Entry) (e : Entry) → IsOrderly es → IsDue es e → is_later e ≡ true → IsSpokenOf es e
 opened_before es (Enters.Owner owner) s d h = absurd (let f : false ≡ true = h in cc)
-opened_before es (Opened job moment ask) s d h = absurd (let f : false ≡ true = h in cc)
+opened_before es (Opened o) s d h = absurd (let f : false ≡ true = h in cc)
 opened_before es (TicketOpen job) s d h = let i = of_it es job d.opening d.unfinished.opened in (d.opening, i.0, i.1)
-opened_before es (Pending job tag alternative previous key) s d h = let i = of_it es job d.opening d.unfinished.opened in (d.opening, i.0, i.1)
-opened_before es (Held job tag ovn version owed) s d h = let q = open_parts es job d.unfinished in let i = of_it es job q.0 q.1 in (q.0, i.0, i.1)
-opened_before es (Deciding job end) s d h = let i = of_it es job d.opening d.unfinished.opened in (d.opening, i.0, i.1)
-opened_before es (Done job end) s d h = let i = of_it es job d.opening d.opened in (d.opening, i.0, i.1)
+opened_before es (Pending t) s d h = let i = of_it es t.job d.opening d.unfinished.opened in (d.opening, i.0, i.1)
+opened_before es (Held holding) s d h = let q = open_parts es holding.job d.unfinished in let i = of_it es holding.job q.0 q.1 in (q.0, i.0, i.1)
+opened_before es (Deciding decision) s d h = let i = of_it es decision.job d.opening d.unfinished.opened in (d.opening, i.0, i.1)
+opened_before es (Done ending) s d h = let i = of_it es ending.job d.opening d.opened in (d.opening, i.0, i.1)
 opened_before es (TicketGone job) s d h = of_closed es job s d.closed
-opened_before es (Sent job place) s d h = of_closed es job s d.closed
+opened_before es (Sent n) s d h = of_closed es n.job s d.closed
 
 abbrev AllSpokenOf : List Entry → Type 0
 AllSpokenOf es = (e : Entry) → Has es e → is_later e ≡ true → IsSpokenOf es e
@@ -238,21 +239,21 @@ not_reserved es e j c later of h k =
 
 pub settled_grows : (es : List Entry) (e : Entry) → IsLegal es → IsDue es e → journal_length (settled (es ++ e ∷ [])) ≡ journal_length (settled es) + settled_by es e
 settled_grows es (Enters.Owner owner) l m = settled_not_closing es (Enters.Owner owner) false l refl refl refl
-settled_grows es (Opened job moment ask) l m = settled_not_closing es (Opened job moment ask) false l refl refl refl
+settled_grows es (Opened o) l m = settled_not_closing es (Opened o) false l refl refl refl
 settled_grows es (TicketOpen job) l m =
     settled_not_closing es (TicketOpen job) true l refl refl (still_reserved es (TicketOpen job) job m.opening m.unfinished.opened m.unfinished.unclosed refl (equal_number job job refl) refl refl)
-settled_grows es (Pending job tag alternative previous key) l m =
-    let e : Entry = Pending job tag alternative previous key in
-    settled_not_closing es e true l refl refl (still_reserved es e job m.opening m.unfinished.opened m.unfinished.unclosed refl (equal_number job job refl) refl refl)
-settled_grows es (Deciding job end) l m =
-    settled_not_closing es (Deciding job end) true l refl refl (still_reserved es (Deciding job end) job m.opening m.unfinished.opened m.unfinished.unclosed refl (equal_number job job refl) refl refl)
-settled_grows es (Held job tag ovn version owed) l m =
-    let e : Entry = Held job tag ovn version owed in
-    let held : is_held job (es ++ e ∷ []) ≡ true = held_either job es (e ∷ []) ∙ right_true (is_held job es) (is_held job (e ∷ [])) (holds_it job tag ovn version owed) in
-    settled_closing es e job l m.unfinished refl (equal_number job job refl) (ap (λ b. b || is_done job (es ++ e ∷ [])) held) (λ i n. closed_same i es e n)
-settled_grows es (Done job end) l m =
-    let e : Entry = Done job end in
-    let done : is_done job (es ++ e ∷ []) ≡ true = done_either job es (e ∷ []) ∙ right_true (is_done job es) (is_done job (e ∷ [])) (ends_it job end) in
-    settled_closing es e job l (open_by es job m.opening m.opened m.unclosed) refl (equal_number job job refl) (right_true (is_held job (es ++ e ∷ [])) (is_done job (es ++ e ∷ [])) done) (λ i n. closed_same i es e n)
+settled_grows es (Pending t) l m =
+    let e : Entry = Pending t in
+    settled_not_closing es e true l refl refl (still_reserved es e t.job m.opening m.unfinished.opened m.unfinished.unclosed refl (equal_number t.job t.job refl) refl refl)
+settled_grows es (Deciding d) l m =
+    settled_not_closing es (Deciding d) true l refl refl (still_reserved es (Deciding d) d.job m.opening m.unfinished.opened m.unfinished.unclosed refl (equal_number d.job d.job refl) refl refl)
+settled_grows es (Held h) l m =
+    let e : Entry = Held h in
+    let held : is_held h.job (es ++ e ∷ []) ≡ true = held_either h.job es (e ∷ []) ∙ right_true (is_held h.job es) (is_held h.job (e ∷ [])) (holds_it h.job h.tag h.ovn h.version h.owed) in
+    settled_closing es e h.job l m.unfinished refl (equal_number h.job h.job refl) (ap (λ b. b || is_done h.job (es ++ e ∷ [])) held) (λ i n. closed_same i es e n)
+settled_grows es (Done d) l m =
+    let e : Entry = Done d in
+    let done : is_done d.job (es ++ e ∷ []) ≡ true = done_either d.job es (e ∷ []) ∙ right_true (is_done d.job es) (is_done d.job (e ∷ [])) (ends_it d.job d.end) in
+    settled_closing es e d.job l (open_by es d.job m.opening m.opened m.unclosed) refl (equal_number d.job d.job refl) (right_true (is_held d.job (es ++ e ∷ [])) (is_done d.job (es ++ e ∷ [])) done) (λ i n. closed_same i es e n)
 settled_grows es (TicketGone job) l m = settled_not_closing es (TicketGone job) false l refl refl (not_reserved es (TicketGone job) job m.closed refl (equal_number job job refl) refl refl)
-settled_grows es (Sent job place) l m = settled_not_closing es (Sent job place) false l refl refl (not_reserved es (Sent job place) job m.closed refl (equal_number job job refl) refl refl)
+settled_grows es (Sent n) l m = settled_not_closing es (Sent n) false l refl refl (not_reserved es (Sent n) n.job m.closed refl (equal_number n.job n.job refl) refl refl)

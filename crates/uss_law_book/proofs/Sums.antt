@@ -6,7 +6,7 @@ use Rattle.std.proofs.lemmas.Bool.Decides.{nat_tests}
 use Rattle.std.proofs.lemmas.List.Sums.{sum_by-cons}
 use Rattle.uss_law_dss.specs.Lists.{Has}
 use Rattle.uss_law_dss.proofs.Tests.{same_number, unequal_number}
-use Rattle.uss_law_book.specs.Lists.{Opening}
+use Rattle.uss_event.specs.declared.entries.Opening.{Opening}
 use Rattle.uss_law_book.proofs.Still.{one_if}
 
 -- the jobs are numbered without a gap
@@ -87,7 +87,7 @@ same_above t p a (suc n) h =
 above : (a p : ℕ) → a ≤ p → (p == a) ≡ false → a < p
 above a p h q = grind (arith, nat_tests)
 
--- one more place is answered
+-- one more notification is answered
 pub one_less : (t : ℕ → Bool) (p a n : ℕ) → a ≤ p → p < a + n → t p ≡ false → length (filter (λ x. not (t x)) (range_with_len a n)) ≡ length (filter (λ x. not (t x || (p == x))) (range_with_len a n)) + 1
 one_less t p a zero h k e = absurd (omega (arith, h, k))
 one_less t p a (suc n) h k e = go (p == a) refl (t a) refl (λ l. one_less t p (a + 1) n (omega (arith, l)) (omega (arith, k)) e)

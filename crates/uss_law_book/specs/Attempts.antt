@@ -16,8 +16,11 @@ use Rattle.uss_event.specs.declared.details.Proposal.{Proposal}
 use Rattle.uss_event.specs.declared.entries.Owner.{Owner}
 use Rattle.uss_event.specs.declared.entries.Entry.{Entry}
 use Rattle.uss_event.specs.Pairs.{OperationalIntent}
-use Rattle.uss_law_book.specs.Lists.{Opening, Trial, Holding, owner_of}
-use Rattle.uss_law_book.specs.Readings.{opening_of, trial_of, holding}
+use Rattle.uss_event.specs.declared.entries.Opening.{Opening}
+use Rattle.uss_event.specs.declared.entries.Trial.{Trial}
+use Rattle.uss_event.specs.declared.entries.Holding.{Holding}
+use Rattle.uss_law_book.specs.Lists.{owner_of}
+use Rattle.uss_law_book.specs.Contents.{opening_of, trial_of, holding}
 
 -- an operational intent as an attempt would record it
 pub record Attempted : Type 0 where

@@ -96,14 +96,14 @@ pub record IsHolding (job tag : ℕ) (ovn : List ℕ) (version : ℕ) (owed : Li
 -- the entry has a coding: each value is one of its type, and within the limits
 abbrev pub HasCoding : Entry → Type 0
 HasCoding (Enters.Owner owner) = IsOwner owner
-HasCoding (Opened job moment ask) = (job < 2 ^ 64) × InTime moment × IsAsk ask
+HasCoding (Opened o) = (o.job < 2 ^ 64) × InTime o.moment × IsAsk o.ask
 HasCoding (TicketOpen job) = job < 2 ^ 64
-HasCoding (Pending job tag alternative previous key) = IsPending job tag alternative previous key
-HasCoding (Held job tag ovn version owed) = IsHolding job tag ovn version owed
-HasCoding (Deciding job end) = (job < 2 ^ 64) × IsDecision end
-HasCoding (Done job end) = (job < 2 ^ 64) × IsEnding end
+HasCoding (Pending t) = IsPending t.job t.tag t.alternative t.previous t.key
+HasCoding (Held h) = IsHolding h.job h.tag h.ovn h.version h.owed
+HasCoding (Deciding d) = (d.job < 2 ^ 64) × IsDecision d.end
+HasCoding (Done d) = (d.job < 2 ^ 64) × IsEnding d.end
 HasCoding (TicketGone job) = job < 2 ^ 64
-HasCoding (Sent job place) = (job < 2 ^ 64) × (place < 2 ^ 32)
+HasCoding (Sent n) = (n.job < 2 ^ 64) × (n.index < 2 ^ 32)
 
 -- the bytes of a text, and of texts one after another
 abbrev pub text_length : List ℕ → ℕ
@@ -147,14 +147,14 @@ ending_length (Ended owed) = 1 + owed_length owed
 -- the number of bytes of an entry's coding
 abbrev pub coding_length : Entry → ℕ
 coding_length (Enters.Owner owner) = 1 + 4 + text_length owner.name + text_length owner.base + (4 + 2 * length owner.table)
-coding_length (Opened job moment ask) = 1 + 8 + 8 + 8 + 8 + wish_length ask.wish
+coding_length (Opened o) = 1 + 8 + 8 + 8 + 8 + wish_length o.ask.wish
 coding_length (TicketOpen job) = 1 + 8
-coding_length (Pending job tag alternative previous key) = 1 + 8 + 8 + 1 + option_length previous + texts_length key
-coding_length (Held job tag ovn version owed) = 1 + 8 + 8 + text_length ovn + 4 + owed_length owed
-coding_length (Deciding job end) = 1 + 8 + ending_length end
-coding_length (Done job end) = 1 + 8 + ending_length end
+coding_length (Pending t) = 1 + 8 + 8 + 1 + option_length t.previous + texts_length t.key
+coding_length (Held h) = 1 + 8 + 8 + text_length h.ovn + 4 + owed_length h.owed
+coding_length (Deciding d) = 1 + 8 + ending_length d.end
+coding_length (Done d) = 1 + 8 + ending_length d.end
 coding_length (TicketGone job) = 1 + 8
-coding_length (Sent job place) = 1 + 8 + 4
+coding_length (Sent n) = 1 + 8 + 4
 
 -- the number of bytes of its record: the length in 4 bytes, the coding, and the gate of the next record
 abbrev pub record_length : Entry → ℕ

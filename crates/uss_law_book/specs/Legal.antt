@@ -14,8 +14,9 @@ use Rattle.uss_event.specs.declared.entries.Ending.TheVariants.{Conflict, Stale,
 use Rattle.uss_event.specs.declared.entries.Entry.{Entry}
 use Rattle.uss_event.specs.declared.entries.Entry.TheVariants.{Opened, TicketOpen, Pending, Held, Deciding, Done, TicketGone, Sent}
 use Rattle.uss_event.specs.declared.entries.Entry.TheVariants as Enters
-use Rattle.uss_law_book.specs.Lists.{Opening, openings, trials}
-use Rattle.uss_law_book.specs.Readings.{opening_of, is_closed, is_open, open_job_of, last_of, has_ended, trials_of, owns, decision_of, base_of, is_put_job, is_ticket_open, is_ticket_gone, is_ticket_needed, owed_of, is_told}
+use Rattle.uss_event.specs.declared.entries.Opening.{Opening}
+use Rattle.uss_law_book.specs.Lists.{openings, trials}
+use Rattle.uss_law_book.specs.Contents.{opening_of, is_closed, is_open, open_job_of, last_of, has_ended, trials_of, owns, decision_of, current_ovn_of, is_put_job, is_ticket_open, is_ticket_gone, is_ticket_needed, owed_of, is_sent}
 use Rattle.uss_law_book.specs.Attempts.{held_state}
 use Rattle.uss_law_book.specs.Coding.{HasCoding}
 use Rattle.uss_law_book.specs.Reserve.{ReserveCovers}
@@ -74,7 +75,7 @@ abbrev pub IsBlind : Bool → ℕ → List (List ℕ) → Type 0
 IsBlind true alternative key = Unit {0}
 IsBlind false alternative key = (alternative ≡ 0) × (key ≡ [])
 
--- a further attempt: with the next tag, of one of the alternatives, of the flight's base
+-- a further attempt: with the next tag, of one of the alternatives, of the flight's current OVN
 pub record MayTry (before : List Entry) (job tag alternative : ℕ) (previous : Option (List ℕ)) (key : List (List ℕ)) : Type 0 where
   pub opening : Opening
   pub to : State
@@ -87,7 +88,7 @@ pub record MayTry (before : List Entry) (job tag alternative : ℕ) (previous : 
   pub round : length (trials_of job before) < rounds
   pub next : tag ≡ length (trials before) + 1
   pub one_of : alternative < length proposals
-  pub base : previous ≡ base_of opening.ask.flight before
+  pub current : previous ≡ current_ovn_of opening.ask.flight before
   pub few : length key ≤ most_ovns
   pub blind : IsBlind (is_strategic to) alternative key
 
@@ -154,22 +155,22 @@ pub record MayRetire (before : List Entry) (job : ℕ) : Type 0 where
   pub unneeded : is_ticket_needed job before ≡ false
 
 -- a notification that a closed job owes is answered once
-pub record MayTell (before : List Entry) (job place : ℕ) : Type 0 where
+pub record MaySend (before : List Entry) (job index : ℕ) : Type 0 where
   pub closed : is_closed job before ≡ true
-  pub owed : place < length (owed_of job before)
-  pub new : is_told job place before ≡ false
+  pub owed : index < length (owed_of job before)
+  pub new : is_sent job index before ≡ false
 
 -- the entry is allowed by the entries before it
 abbrev pub IsDue : List Entry → Entry → Type 0
 IsDue before (Enters.Owner owner) = Unit {0}
-IsDue before (Opened job moment ask) = MayOpen before job ask
+IsDue before (Opened o) = MayOpen before o.job o.ask
 IsDue before (TicketOpen job) = MayOpenTicket before job
-IsDue before (Pending job tag alternative previous key) = MayTry before job tag alternative previous key
-IsDue before (Held job tag ovn version owed) = MayHold before job tag
-IsDue before (Deciding job end) = MayDecide before job end
-IsDue before (Done job end) = MayEnd before job end
+IsDue before (Pending t) = MayTry before t.job t.tag t.alternative t.previous t.key
+IsDue before (Held h) = MayHold before h.job h.tag
+IsDue before (Deciding d) = MayDecide before d.job d.end
+IsDue before (Done d) = MayEnd before d.job d.end
 IsDue before (TicketGone job) = MayRetire before job
-IsDue before (Sent job place) = MayTell before job place
+IsDue before (Sent n) = MaySend before n.job n.index
 
 abbrev pub is_owner : Entry → Bool
 is_owner (Enters.Owner owner) = true

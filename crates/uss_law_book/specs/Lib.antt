@@ -1,5 +1,5 @@
 pub mod Lists
-pub mod Readings
+pub mod Contents
 pub mod Attempts
 pub mod Coding
 pub mod Reserve

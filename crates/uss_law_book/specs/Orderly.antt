@@ -3,8 +3,12 @@ use Rattle.std.specs.Prelude.{ℕ, ◌≤◌, ◌<◌, ◌^◌, ◌≡◌, false
 use Rattle.uss_event.specs.declared.entries.Owner.{Owner}
 use Rattle.uss_event.specs.declared.entries.Entry.{Entry}
 use Rattle.uss_law_dss.specs.Lists.{Has}
-use Rattle.uss_law_book.specs.Lists.{owner_of, Opening, Trial, Holding, Closing, openings, trials, holdings, endings}
-use Rattle.uss_law_book.specs.Readings.{opening_of, is_closed, base_of}
+use Rattle.uss_event.specs.declared.entries.Opening.{Opening}
+use Rattle.uss_event.specs.declared.entries.Trial.{Trial}
+use Rattle.uss_event.specs.declared.entries.Holding.{Holding}
+use Rattle.uss_event.specs.declared.entries.Closing.{Closing}
+use Rattle.uss_law_book.specs.Lists.{owner_of, openings, trials, holdings, endings}
+use Rattle.uss_law_book.specs.Contents.{opening_of, is_closed, current_ovn_of}
 use Rattle.uss_law_book.specs.Attempts.{Attempted, attempt_of, recorded_as, held}
 use Rattle.uss_law_book.specs.Legal.{is_new}
 
@@ -32,7 +36,7 @@ pub record IsOrderly (book : List Entry) : Type 0 where
   -- the attempts of a job change one reference
   pub previous : (t u : Trial) → Has (trials book) t → Has (trials book) u → t.job ≡ u.job → t.previous ≡ u.previous
   -- while the job is open, that is the one which is recorded of the flight
-  pub based : (t : Trial) (o : Opening) → Has (trials book) t → Has (openings book) o → o.job ≡ t.job → is_closed o.job book ≡ false → t.previous ≡ base_of o.ask.flight book
+  pub based : (t : Trial) (o : Opening) → Has (trials book) t → Has (openings book) o → o.job ≡ t.job → is_closed o.job book ≡ false → t.previous ≡ current_ovn_of o.ask.flight book
   -- a job is closed once
   pub held_once : (h k : Holding) → Has (holdings book) h → Has (holdings book) k → h.job ≡ k.job → h ≡ k
   pub ended_once : (d c : Closing) → Has (endings book) d → Has (endings book) c → d.job ≡ c.job → d ≡ c

@@ -9,7 +9,7 @@ use Rattle.uss_law_book.specs.Legal.{IsDue, is_owner, is_new, IsLegal}
 -- a job is opened only where there is room for its record and for what is kept free for it. No other entry needs room that isn't
 -- kept free for it
 abbrev pub IsSpared : List Entry → Entry → Type 0
-IsSpared book (Opened job moment ask) = reserved book + job_room + record_length (Opened job moment ask) ≤ journal_limit
+IsSpared book (Opened o) = reserved book + job_room + record_length (Opened o) ≤ journal_limit
 IsSpared book _ = Unit {0}
 
 -- the entry is in its place, has its coding, is due, and has its room

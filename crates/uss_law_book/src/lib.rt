@@ -1,6 +1,6 @@
 //! What a supplier's book is to be: definitions and laws, and no code that runs.
 //!
-//! `specs/Lists.antt` has what the entries say, `specs/Readings.antt` and `specs/Attempts.antt` what a book tells of jobs, flights,
+//! `specs/Lists.antt` has what the entries say, `specs/Contents.antt` and `specs/Attempts.antt` what a book tells of jobs, flights,
 //! tickets and attempts, `specs/Coding.antt` which entries have a coding and how long it is, `specs/Reserve.antt` the room that a
 //! book keeps free, `specs/Changes.antt` how a further entry changes it, `specs/Legal.antt` when a book is legal, and `specs/Room.antt`
 //! what an entry has to keep to follow a legal book. The functions below do nothing: their contracts carry the laws.
@@ -12,8 +12,11 @@ ghost use Rattle.uss_event.specs.declared.asks.FlightAsk.{FlightAsk};
 ghost use Rattle.uss_event.specs.declared.entries.Entry.{Entry};
 ghost use Rattle.uss_event.specs.declared.entries.Entry.TheVariants.{Opened};
 ghost use Rattle.uss_law_dss.specs.Lists.{Has};
-ghost use Rattle.uss_law_book.specs.Lists.{Opening, Trial, Holding, openings, trials};
-ghost use Rattle.uss_law_book.specs.Readings.{opening_of, trial_of, is_closed, open_job_of, holding, base_of};
+ghost use Rattle.uss_event.specs.declared.entries.Opening.{Opening};
+ghost use Rattle.uss_event.specs.declared.entries.Trial.{Trial};
+ghost use Rattle.uss_event.specs.declared.entries.Holding.{Holding};
+ghost use Rattle.uss_law_book.specs.Lists.{openings, trials};
+ghost use Rattle.uss_law_book.specs.Contents.{opening_of, trial_of, is_closed, open_job_of, holding, current_ovn_of};
 ghost use Rattle.uss_law_book.specs.Attempts.{Attempted, attempt_of, held};
 ghost use Rattle.uss_law_book.specs.Coding.{record_length, journal_length};
 ghost use Rattle.uss_law_book.specs.Reserve.{journal_limit, job_room, need, ReserveCovers};
@@ -57,10 +60,10 @@ pub fn attempts_of_a_job_have_one_previous()
     ensures { (book : List Entry) (t u : Trial) → IsLegal book → Has (trials book) t → Has (trials book) u → t.job ≡ u.job → t.previous ≡ u.previous }
 {}
 
-/// What a legal book holds of a flight is one of the attempts of a job of the flight, as it was recorded; its OVN is the flight's base.
+/// What a legal book holds of a flight is one of the attempts of a job of the flight, as it was recorded; its OVN is the flight's current one.
 pub fn what_is_held_was_recorded()
     ensures held { (book : List Entry) (flight : ℕ) (h : Holding) → IsLegal book → holding flight book ≡ Some h → IsHeldOf book flight h }
-    ensures base { (book : List Entry) (flight : ℕ) → IsLegal book → base_of flight book ≡ option_and_then (λ p. p.reference.ovn) (held flight book) }
+    ensures current_ovn { (book : List Entry) (flight : ℕ) → IsLegal book → current_ovn_of flight book ≡ option_and_then (λ p. p.reference.ovn) (held flight book) }
 {}
 
 /// A legal book keeps its room, and fits its journal. Once a job is open, each entry that is due and has its coding leaves the book with
@@ -73,5 +76,5 @@ pub fn legal_books_keep_room()
     ensures room { LegalBooksKeepRoom }
     ensures exact { (book : List Entry) (e : Entry) → IsLegal book → (MayFollow book e ↔ IsNext book e) }
     ensures beside_all { (book : List Entry) (job : ℕ) (moment : ℤ) (ask : FlightAsk)
-        → journal_length book + need book + job_room + record_length (Opened job moment ask) ≤ journal_limit → IsSpared book (Opened job moment ask) }
+        → journal_length book + need book + job_room + record_length (Opened (record { job = job; moment = moment; ask = ask })) ≤ journal_limit → IsSpared book (Opened (record { job = job; moment = moment; ask = ask })) }
 {}

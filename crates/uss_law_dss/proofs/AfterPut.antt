@@ -19,7 +19,7 @@ use Rattle.uss_law_dss.proofs.Placed.{ascend_put, put_there, put_keeps, put_othe
 use Rattle.uss_law_dss.proofs.Raised.{raised_from, raised_to, ascend_raised, length-raised}
 use Rattle.uss_law_dss.proofs.History.{has_numbered, numbered_once, numbered_push, last_pushed, last_kept, last_has, count_more, count_same, count_none}
 
--- what the tests of a Put told
+-- what the tests of a Put say
 pub record IsAllowed (s : Service) (client : List ℕ) (flight : ℕ) (ovn : Option (List ℕ)) (extents : List Volume4D) (ticket : ℕ) : Type 0 where
   pub some_extents : 0 < length extents
   pub not_retired : is_one_of flight s.retired_flights ≡ false

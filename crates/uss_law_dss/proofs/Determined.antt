@@ -18,7 +18,7 @@ use Rattle.uss_intent.specs.Tags.{tag_of}
 use Rattle.uss_law_dss.specs.Lists.{Has}
 use Rattle.uss_law_dss.specs.Service.{Service, shown_to}
 use Rattle.uss_law_dss.specs.Orderly.{Ascend, IsOrderly, flight_recorded, id_of}
-use Rattle.uss_law_dss.specs.Told.{IsToldOfPut, IsToldOfRemove, ticket_named, Becomes, InPlace, Tells}
+use Rattle.uss_law_dss.specs.Notified.{IsNotifiedOfPut, IsNotifiedOfRemove, ticket_named, Becomes, InPlace, Notifies}
 use Rattle.uss_law_dss.specs.Carried.{flight_shown, Lists, Gets, Records, Retires, Makes, TakesOut, CarriedOut}
 use Rattle.uss_law_dss.proofs.Tests.{some_same}
 use Rattle.uss_law_dss.proofs.Placed.{above_has}
@@ -81,22 +81,22 @@ ascend_same {X} number (x ∷ xs) (y ∷ ys) a b m n =
     behind w ws z d (inl q) = absurd (d q)
     behind w ws z d (inr h) = h
 
-becomes_same : (IsTold : Ticket → Type 0) (t u v : Ticket) → Becomes IsTold t u → Becomes IsTold t v → u ≡ v
-becomes_same IsTold t u v (inl p) (inl q) = p.1 ∙ sym q.1
-becomes_same IsTold t u v (inl p) (inr q) = absurd (q.0 p.0)
-becomes_same IsTold t u v (inr p) (inl q) = absurd (p.0 q.0)
-becomes_same IsTold t u v (inr p) (inr q) = p.1 ∙ sym q.1
+becomes_same : (IsNotified : Ticket → Type 0) (t u v : Ticket) → Becomes IsNotified t u → Becomes IsNotified t v → u ≡ v
+becomes_same IsNotified t u v (inl p) (inl q) = p.1 ∙ sym q.1
+becomes_same IsNotified t u v (inl p) (inr q) = absurd (q.0 p.0)
+becomes_same IsNotified t u v (inr p) (inl q) = absurd (p.0 q.0)
+becomes_same IsNotified t u v (inr p) (inr q) = p.1 ∙ sym q.1
 
-in_place_same : (IsTold : Ticket → Type 0) (ts us vs : List Ticket) → InPlace (Becomes IsTold) ts us → InPlace (Becomes IsTold) ts vs → us ≡ vs
-in_place_same IsTold [] [] [] p q = refl
-in_place_same IsTold [] [] (v ∷ vs) p q = absurd q
-in_place_same IsTold [] (u ∷ us) vs p q = absurd p
-in_place_same IsTold (t ∷ ts) [] vs p q = absurd p
-in_place_same IsTold (t ∷ ts) (u ∷ us) [] p q = absurd q
-in_place_same IsTold (t ∷ ts) (u ∷ us) (v ∷ vs) p q = let e = becomes_same IsTold t u v p.0 q.0 in let f = in_place_same IsTold ts us vs p.1 q.1 in cc
+in_place_same : (IsNotified : Ticket → Type 0) (ts us vs : List Ticket) → InPlace (Becomes IsNotified) ts us → InPlace (Becomes IsNotified) ts vs → us ≡ vs
+in_place_same IsNotified [] [] [] p q = refl
+in_place_same IsNotified [] [] (v ∷ vs) p q = absurd q
+in_place_same IsNotified [] (u ∷ us) vs p q = absurd p
+in_place_same IsNotified (t ∷ ts) [] vs p q = absurd p
+in_place_same IsNotified (t ∷ ts) (u ∷ us) [] p q = absurd q
+in_place_same IsNotified (t ∷ ts) (u ∷ us) (v ∷ vs) p q = let e = becomes_same IsNotified t u v p.0 q.0 in let f = in_place_same IsNotified ts us vs p.1 q.1 in cc
 
-told_same : (IsTold : Ticket → Type 0) (ts us vs : List Ticket) (l m : List Subscriber) → Tells IsTold ts us l → Tells IsTold ts vs m → l ≡ m
-told_same IsTold ts us vs l m a b = ascend_same ticket_named l m a.ascending b.ascending (λ u h. (b.those u).1 ((a.those u).0 h)) (λ u h. (a.those u).1 ((b.those u).0 h))
+notified_same : (IsNotified : Ticket → Type 0) (ts us vs : List Ticket) (l m : List Subscriber) → Notifies IsNotified ts us l → Notifies IsNotified ts vs m → l ≡ m
+notified_same IsNotified ts us vs l m a b = ascend_same ticket_named l m a.ascending b.ascending (λ u h. (b.those u).1 ((a.those u).0 h)) (λ u h. (a.those u).1 ((b.those u).0 h))
 
 pub list_same : (s : Service) (client : List ℕ) (IsSuch : Recorded → Type 0) (l m : List Reference) → Lists s client IsSuch l → Lists s client IsSuch m → l ≡ m
 list_same s client IsSuch l m a b = ascend_same flight_shown l m a.ascending b.ascending (λ u h. (b.those u).1 ((a.those u).0 h)) (λ u h. (a.those u).1 ((b.those u).0 h))
@@ -168,27 +168,27 @@ module _ (s : Service) (client : List ℕ) (flight : ℕ) (ovn : Option (List �
   pub put_same : a ≡ b
   put_same =
       let e = new_reference in
-      let f = told_same (IsToldOfPut s client flight extents) s.tickets a.1.tickets b.1.tickets c.told d.told c.tickets d.tickets in
-      let g : Landed c.new.reference c.told ≡ Landed d.new.reference d.told = cc in
+      let f = notified_same (IsNotifiedOfPut s client flight extents) s.tickets a.1.tickets b.1.tickets c.notified d.notified c.tickets d.tickets in
+      let g : Landed c.new.reference c.notified ≡ Landed d.new.reference d.notified = cc in
       out_same a b (c.reply ∙ g ∙ sym d.reply)
       (service_same a.1 b.1
       (ascend_same flight_recorded a.1.references b.1.references k.references_ascend l.references_ascend
       (λ r h. (d.references r).1 (moved c.new d.new new_same r ((c.references r).0 h)))
       (λ r h. (c.references r).1 (moved d.new c.new (sym new_same) r ((d.references r).0 h))))
-      (in_place_same (IsToldOfPut s client flight extents) s.tickets a.1.tickets b.1.tickets c.tickets.tickets d.tickets.tickets)
+      (in_place_same (IsNotifiedOfPut s client flight extents) s.tickets a.1.tickets b.1.tickets c.tickets.tickets d.tickets.tickets)
       (c.retired_flights ∙ sym d.retired_flights) (c.retired_tickets ∙ sym d.retired_tickets)
       (c.landings ∙ ap (λ (m : Landing). s.landings ++ m ∷ []) landing_is ∙ sym d.landings))
 
 remove_same : (s : Service) (client : List ℕ) (flight : ℕ) (ovn : List ℕ) (a b : DssReply × Service) → IsOrderly s → Retires s client flight ovn a → Retires s client flight ovn b → IsOrderly a.1 → IsOrderly b.1 → a ≡ b
 remove_same s client flight ovn a b j c d k l =
     let e = one_recorded s flight c.recorded d.recorded j c.named.there d.named.there c.named.flight_is d.named.flight_is in
-    let f = told_same (IsToldOfRemove s client flight) s.tickets a.1.tickets b.1.tickets c.told d.told c.tickets d.tickets in
+    let f = notified_same (IsNotifiedOfRemove s client flight) s.tickets a.1.tickets b.1.tickets c.notified d.notified c.tickets d.tickets in
     let h = ap (λ (r : Recorded). r.reference) e in
-    let g : Removed c.recorded.reference c.told ≡ Removed d.recorded.reference d.told = cc in
+    let g : Removed c.recorded.reference c.notified ≡ Removed d.recorded.reference d.notified = cc in
     out_same a b (c.reply ∙ g ∙ sym d.reply)
     (service_same a.1 b.1
     (ascend_same flight_recorded a.1.references b.1.references k.references_ascend l.references_ascend (λ r h. (d.references r).1 ((c.references r).0 h)) (λ r h. (c.references r).1 ((d.references r).0 h)))
-    (in_place_same (IsToldOfRemove s client flight) s.tickets a.1.tickets b.1.tickets c.tickets.tickets d.tickets.tickets)
+    (in_place_same (IsNotifiedOfRemove s client flight) s.tickets a.1.tickets b.1.tickets c.tickets.tickets d.tickets.tickets)
     (c.retired_flights ∙ sym d.retired_flights) (c.retired_tickets ∙ sym d.retired_tickets) (c.landings ∙ sym d.landings))
 
 made_same : (s : Service) (client : List ℕ) (ticket : ℕ) (area : Volume4D) (base : List ℕ) (a b : DssReply × Service) → Makes s client ticket area base a → Makes s client ticket area base b → IsOrderly a.1 → IsOrderly b.1 → a ≡ b

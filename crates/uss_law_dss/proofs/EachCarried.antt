@@ -20,14 +20,14 @@ use Rattle.uss_law_dss.specs.Service.{Service, recorded_of, ticket_of, shown_to,
 use Rattle.uss_law_dss.specs.Refusals.{shown_all, is_others, is_others_ticket, is_stale, is_cited, tests_of, first_of}
 use Rattle.uss_law_dss.specs.Step.{put_recorded, put_ticket, subscribers, old_extents, next_version, landed, landing_of, after_put, after_remove, new_ticket, after_ticket_put, after_ticket_remove, with_recorded, with_ticket, found_in, accepted, unless_refused, service_step}
 use Rattle.uss_law_dss.specs.Orderly.{IsOrderly, flight_recorded}
-use Rattle.uss_law_dss.specs.Told.{Reach, IsToldOfPut, IsToldOfRemove}
+use Rattle.uss_law_dss.specs.Notified.{Reach, IsNotifiedOfPut, IsNotifiedOfRemove}
 use Rattle.uss_law_dss.specs.Carried.{NoneHolds, IsShown, flight_shown, Lists, Finds, Gets, Records, Retires, Makes, Shows, TakesOut, CarriedOut}
 use Rattle.uss_law_dss.proofs.Lists.{has_filter, has_filtered, has_passed, has_map, mapped, any_false}
 use Rattle.uss_law_dss.proofs.Tests.{other_number, unequal_number, same_bytes, equal_bytes, not_true, not_false, neither}
 use Rattle.uss_law_dss.proofs.Placed.{put_there, put_keeps, put_others, put_ticket_there, put_ticket_keeps, put_ticket_others, ascend_filter, ascend_map}
 use Rattle.uss_law_dss.proofs.Points.{reach_tells}
 use Rattle.uss_law_dss.proofs.Founds.{recorded_has, ticket_has, not_recorded}
-use Rattle.uss_law_dss.proofs.TellsThose.{tells, told_of_put, told_of_remove}
+use Rattle.uss_law_dss.proofs.NotifiesThose.{tells, notified_of_put, notified_of_remove}
 use Rattle.uss_law_dss.proofs.EachEffect.{created, changed, is_ovn, some_items}
 
 -- ---- the times of a reference
@@ -114,7 +114,7 @@ put_done s client flight ovn extents key state base ticket j all =
     let change = changed (recorded_of flight s) client ovn all.1.1.1.1.0 all.1.0 all.1.1.1.1.1.0 all.1.1.1.1.1.1.1.1.1.1.0 in
     record {
       new = new;
-      told = subscribers client touched s.tickets;
+      notified = subscribers client touched s.tickets;
       landing = landing_of s client flight ovn base ticket;
       reply = refl;
       flight_is = refl;
@@ -135,7 +135,7 @@ put_done s client flight ovn extents key state base ticket j all =
           | inr h ↦ put_keeps new s.references r h.0 h.1
         ],
       );
-      tickets = tells (IsToldOfPut s client flight extents) client touched s.tickets j.tickets_ascend (λ t. told_of_put s client flight extents t j);
+      tickets = tells (IsNotifiedOfPut s client flight extents) client touched s.tickets j.tickets_ascend (λ t. notified_of_put s client flight extents t j);
       landings = refl;
       as_landed = record { ovn = refl; manager = refl; flight = refl; tag = refl; ticket = refl };
       previous = refl;
@@ -151,14 +151,14 @@ remove_done s client flight ovn (Some r) e j y n k =
     let p : Recorded → Bool = λ q. not (q.reference.flight == r.reference.flight) in
     record {
       recorded = r;
-      told = subscribers client r.extents s.tickets;
+      notified = subscribers client r.extents s.tickets;
       named = record { there = h.0; flight_is = h.1; manager = same_bytes r.reference.manager client (not_false _ y); ovn_is = is_ovn r.reference.ovn ovn (not_false _ k) };
       reply = refl;
       references = λ q. (
         λ i. (has_filter p s.references q i, (let d = other_number q.reference.flight r.reference.flight (not_true _ (has_passed p s.references q i)) in let f = h.1 in omega arith)),
         λ i. has_filtered p s.references q i.0 (let d = i.1 in let f = h.1 in ap not (unequal_number q.reference.flight r.reference.flight (omega arith))),
       );
-      tickets = tells (IsToldOfRemove s client flight) client r.extents s.tickets j.tickets_ascend (λ t. told_of_remove s client flight r t j e);
+      tickets = tells (IsNotifiedOfRemove s client flight) client r.extents s.tickets j.tickets_ascend (λ t. notified_of_remove s client flight r t j e);
       landings = refl;
       retired_flights = ap (λ (f : ℕ). s.retired_flights ++ f ∷ []) h.1;
       retired_tickets = refl;

@@ -51,8 +51,8 @@ list_shown client rs a few =
 filtered : (client : List ℕ) (p : Recorded → Bool) (rs : List Recorded) → Ascend flight_recorded rs → length rs ≤ 4096 → (Ascend flight_recorded (filter p rs)) × (length (filter p rs) ≤ 4096)
 filtered client p rs a few = (ascend_filter flight_recorded p rs a, (let len = length-filter_le p rs in omega arith))
 
-few_told : (client : List ℕ) (extents : List Volume4D) (ts : List Ticket) → length ts ≤ 8192 → are_few (subscribers client extents ts) ≡ true
-few_told client extents ts few = let len = length-subscribers client extents ts in le_test (length (subscribers client extents ts)) 8192 (omega arith)
+few_notified : (client : List ℕ) (extents : List Volume4D) (ts : List Ticket) → length ts ≤ 8192 → are_few (subscribers client extents ts) ≡ true
+few_notified client extents ts few = let len = length-subscribers client extents ts in le_test (length (subscribers client extents ts)) 8192 (omega arith)
 
 -- each refusal of the tests fits
 AllFit : List (Bool × DssRefusal) → Type 0
@@ -102,7 +102,7 @@ got_fits s client flight (Some r) e =
 removed_fits : (s : Service) (client : List ℕ) (flight : ℕ) (ovn : List ℕ) (r : Option Recorded) → recorded_of flight s ≡ r → IsOrderly s → fits (Remove flight ovn) (with_recorded s r (λ r. after_remove s client r)).0 ≡ true
 removed_fits s client flight ovn None e j = refl
 removed_fits s client flight ovn (Some r) e j =
-    and_true (r.reference.flight == flight) (are_few (subscribers client r.extents s.tickets)) (find_has (λ r. r.reference.flight == flight) s.references r e).1 (few_told client r.extents s.tickets j.few_tickets)
+    and_true (r.reference.flight == flight) (are_few (subscribers client r.extents s.tickets)) (find_has (λ r. r.reference.flight == flight) s.references r e).1 (few_notified client r.extents s.tickets j.few_tickets)
 
 ticket_got_fits : (s : Service) (ticket : ℕ) (t : Option Ticket) → ticket_of ticket s ≡ t → fits (TicketGet ticket) (with_ticket s t (λ t. (TicketGot t, s))).0 ≡ true
 ticket_got_fits s ticket None e = refl
@@ -115,10 +115,10 @@ ticket_removed_fits s ticket version (Some t) e = (find_has (λ t. t.id == ticke
 put_fits : (s : Service) (client : List ℕ) (flight : ℕ) (ovn : Option (List ℕ)) (extents : List Volume4D) (key : List (List ℕ)) (state : State) (base : List ℕ) (ticket : ℕ) → IsOrderly s
     → fits (Put flight ovn extents key state base ticket) (after_put s client flight ovn extents state base ticket).0 ≡ true
 put_fits s client flight ovn extents key state base ticket j =
-    let told = few_told client (old_extents (recorded_of flight s) ++ extents) s.tickets j.few_tickets in
+    let notified = few_notified client (old_extents (recorded_of flight s) ++ extents) s.tickets j.few_tickets in
     and_true (flight == flight) _ (equal_number flight flight refl)
     (and_true (same_state state state) _ ((state_is_same state state).1 refl)
-    (and_true (same_text base base) _ (equal_bytes base base refl) told))
+    (and_true (same_text base base) _ (equal_bytes base base refl) notified))
 
 pub step_fits : (s : Service) (client : List ℕ) (ask : DssAsk) → IsOrderly s → fits ask (service_step s client ask).0 ≡ true
 unfolding MayBeRefused

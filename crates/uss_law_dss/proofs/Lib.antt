@@ -12,9 +12,9 @@ pub mod EachOrderly
 pub mod EachFits
 pub mod Points
 pub mod Founds
-pub mod TellsThose
+pub mod NotifiesThose
 pub mod EachCarried
-pub mod WhoIsTold
+pub mod WhoIsNotified
 pub mod Means
 pub mod EachCause
 pub mod Determined

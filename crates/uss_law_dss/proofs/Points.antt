@@ -9,7 +9,7 @@ use Rattle.uss_intent.specs.declared.records.Ticket.{Ticket}
 use Rattle.uss_intent.specs.Same.{same_text}
 use Rattle.uss_law_dss.specs.Lists.{Has}
 use Rattle.uss_law_dss.specs.Service.{Service, reach, relevant}
-use Rattle.uss_law_dss.specs.Step.{found_in, is_told}
+use Rattle.uss_law_dss.specs.Step.{found_in, is_notified}
 use Rattle.uss_law_dss.proofs.Lists.{has_filter, has_filtered, has_passed}
 use Rattle.uss_law_dss.proofs.Tests.{both, and_true, other_number, unequal_number, not_true, equal_bytes, same_bytes, not_both}
 
@@ -48,8 +48,8 @@ differing a b d = go (same_text a b) refl
     go true e = absurd (d (same_bytes a b e))
     go false e = refl
 
-pub told_by_points : (client : List ℕ) (extents : List Volume4D) (t : Ticket) → IsTrue (is_told client extents t) ↔ ((t.manager ≢ client) × Any (λ v. Shares v t.area) extents)
-told_by_points client extents t = (
+pub notified_by_points : (client : List ℕ) (extents : List Volume4D) (t : Ticket) → IsTrue (is_notified client extents t) ↔ ((t.manager ≢ client) × Any (λ v. Shares v t.area) extents)
+notified_by_points client extents t = (
   λ h. (let q = both (not (same_text t.manager client)) (reach extents t.area) h in (differs t.manager client q.0, (reach_tells extents t.area).0 q.1)),
   λ h. and_true (not (same_text t.manager client)) (reach extents t.area) (differing t.manager client h.0) ((reach_tells extents t.area).1 h.1),
 )

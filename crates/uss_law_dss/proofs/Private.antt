@@ -16,7 +16,7 @@ use Rattle.uss_law_dss.specs.Carried.{IsShown, Lists, CarriedOut}
 use Rattle.uss_law_dss.specs.Causes.{Cause}
 use Rattle.uss_law_dss.specs.Shown.{listed_in, shown_in}
 use Rattle.uss_law_dss.proofs.Tests.{same_bytes, equal_bytes}
-use Rattle.uss_law_dss.proofs.WhoIsTold.{refused_or_done}
+use Rattle.uss_law_dss.proofs.WhoIsNotified.{refused_or_done}
 use Rattle.uss_law_dss.proofs.EachCause.{caused}
 
 -- the OVN is there for the manager alone

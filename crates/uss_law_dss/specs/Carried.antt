@@ -1,4 +1,4 @@
--- What a call does where none of its tests holds, in the service's own words: what is shown, recorded, told, made and gone.
+-- What a call does where none of its tests holds, in the service's own words: what is shown, recorded, notified, made and gone.
 use Rattle.std.specs.Prelude.{ℕ, ◌+◌, ◌≡◌, ◌≢◌, ◌⊎◌, ◌↔◌, Bool, false, List, [], ◌∷◌, ◌++◌, length, Option, Some, None}
 use Rattle.uss_shape.specs.Shape.{IsLeast, IsGreatest}
 use Rattle.uss_vol4.specs.Volume.{Volume4D}
@@ -16,7 +16,7 @@ use Rattle.uss_intent.specs.declared.calls.DssRefusal.{DssRefusal}
 use Rattle.uss_law_dss.specs.Lists.{Has}
 use Rattle.uss_law_dss.specs.Service.{Service, ovn_of}
 use Rattle.uss_law_dss.specs.Orderly.{Ascend, IsAsLanded}
-use Rattle.uss_law_dss.specs.Told.{Reach, IsToldOfPut, IsToldOfRemove, Tells}
+use Rattle.uss_law_dss.specs.Notified.{Reach, IsNotifiedOfPut, IsNotifiedOfRemove, Notifies}
 
 -- no test holds
 abbrev pub NoneHolds : List (Bool × DssRefusal) → Type 0
@@ -63,9 +63,9 @@ pub record IsNamed (s : Service) (client : List ℕ) (flight : ℕ) (ovn : List 
 -- a Put: the reference is recorded in place of the flight's former one, and its landing is the last
 pub record Records (s : Service) (client : List ℕ) (flight : ℕ) (ovn : Option (List ℕ)) (extents : List Volume4D) (state : State) (base : List ℕ) (ticket : ℕ) (out : DssReply × Service) : Type 0 where
   pub new : Recorded
-  pub told : List Subscriber
+  pub notified : List Subscriber
   pub landing : Landing
-  pub reply : out.0 ≡ Landed new.reference told
+  pub reply : out.0 ≡ Landed new.reference notified
   -- as it was put
   pub flight_is : new.reference.flight ≡ flight
   pub manager : new.reference.manager ≡ client
@@ -82,7 +82,7 @@ pub record Records (s : Service) (client : List ℕ) (flight : ℕ) (ovn : Optio
   pub created : ovn ≡ None → (new.reference.version ≡ 1) × ((r : Recorded) → Has s.references r → r.reference.flight ≢ flight)
   pub changed : (o : List ℕ) → ovn ≡ Some o → (r : Recorded) × IsNamed s client flight o r × (new.reference.version ≡ r.reference.version + 1)
   pub references : (r : Recorded) → Has out.1.references r ↔ ((new ≡ r) ⊎ (Has s.references r × (r.reference.flight ≢ flight)))
-  pub tickets : Tells (IsToldOfPut s client flight extents) s.tickets out.1.tickets told
+  pub tickets : Notifies (IsNotifiedOfPut s client flight extents) s.tickets out.1.tickets notified
   pub landings : out.1.landings ≡ s.landings ++ landing ∷ []
   pub as_landed : IsAsLanded landing new.reference
   pub previous : landing.previous ≡ ovn
@@ -92,11 +92,11 @@ pub record Records (s : Service) (client : List ℕ) (flight : ℕ) (ovn : Optio
 -- a Remove: the flight's reference is gone, and the flight is retired
 pub record Retires (s : Service) (client : List ℕ) (flight : ℕ) (ovn : List ℕ) (out : DssReply × Service) : Type 0 where
   pub recorded : Recorded
-  pub told : List Subscriber
+  pub notified : List Subscriber
   pub named : IsNamed s client flight ovn recorded
-  pub reply : out.0 ≡ Removed recorded.reference told
+  pub reply : out.0 ≡ Removed recorded.reference notified
   pub references : (r : Recorded) → Has out.1.references r ↔ (Has s.references r × (r.reference.flight ≢ flight))
-  pub tickets : Tells (IsToldOfRemove s client flight) s.tickets out.1.tickets told
+  pub tickets : Notifies (IsNotifiedOfRemove s client flight) s.tickets out.1.tickets notified
   pub landings : out.1.landings ≡ s.landings
   pub retired_flights : out.1.retired_flights ≡ s.retired_flights ++ flight ∷ []
   pub retired_tickets : out.1.retired_tickets ≡ s.retired_tickets

@@ -4,7 +4,7 @@ use Rattle.std.specs.Str.{all_ascii_digits}
 use Rattle.std.specs.Str.Parse.{digits_value}
 use Rattle.uss_law_dss.specs.Service.{Service}
 
--- the second list is the first with more behind it
+-- the second list is the first with more after it
 abbrev pub GoesOn : {X : Type 0} → List X → List X → Type 0
 GoesOn {X} xs ys = (more : List X) × (ys ≡ xs ++ more)
 

@@ -75,11 +75,11 @@ keyed =
 abbrev pub wide_other_ticket : Ticket
 wide_other_ticket = record wide_ticket { id = other_ticket; manager = beta; base = codes "http://b.test" }
 
-abbrev pub told_alpha : ℕ → List Subscriber
-told_alpha index = record { base = codes "http://a.test"; ticket = ticket; index = index } ∷ []
+abbrev pub notified_alpha : ℕ → List Subscriber
+notified_alpha index = record { base = codes "http://a.test"; ticket = ticket; index = index } ∷ []
 
-abbrev pub told_beta : ℕ → List Subscriber
-told_beta index = record { base = codes "http://b.test"; ticket = other_ticket; index = index } ∷ []
+abbrev pub notified_beta : ℕ → List Subscriber
+notified_beta index = record { base = codes "http://b.test"; ticket = other_ticket; index = index } ∷ []
 
 abbrev pub in_east : Reference
 in_east = record first_reference { flight = other; manager = beta; base = codes "http://b.test/a/1"; ticket = other_ticket }
@@ -101,15 +101,15 @@ abbrev pub the_keyed_replies : List DssReply
 the_keyed_replies =
     TicketMade wide_ticket
     ∷ TicketMade wide_other_ticket
-    ∷ Landed in_east (told_alpha 1)
-    ∷ Landed (in_west 1 Accepted ovn_2 (codes "http://a.test/a/1")) (told_beta 1)
+    ∷ Landed in_east (notified_alpha 1)
+    ∷ Landed (in_west 1 Accepted ovn_2 (codes "http://a.test/a/1")) (notified_beta 1)
     ∷ Refused (MissingKey (without_ovn (in_west 1 Accepted ovn_2 (codes "http://a.test/a/1")) ∷ in_east ∷ []))
     ∷ Refused (MissingKey (without_ovn (in_west 1 Accepted ovn_2 (codes "http://a.test/a/1")) ∷ []))
-    ∷ Landed in_middle (told_alpha 2)
-    ∷ Landed (in_west 2 Nonconforming ovn_4 (codes "http://a.test/a/2")) (told_beta 2)
-    ∷ Landed (in_west 3 Contingent ovn_5 (codes "http://a.test/a/3")) (told_beta 3)
+    ∷ Landed in_middle (notified_alpha 2)
+    ∷ Landed (in_west 2 Nonconforming ovn_4 (codes "http://a.test/a/2")) (notified_beta 2)
+    ∷ Landed (in_west 3 Contingent ovn_5 (codes "http://a.test/a/3")) (notified_beta 3)
     ∷ Refused (MissingKey (without_ovn (in_west 3 Contingent ovn_5 (codes "http://a.test/a/3")) ∷ []))
     ∷ Refused (MissingKey (without_ovn in_middle ∷ []))
-    ∷ Landed (in_west 4 Activated ovn_6 (codes "http://a.test/a/4")) (told_beta 4)
+    ∷ Landed (in_west 4 Activated ovn_6 (codes "http://a.test/a/4")) (notified_beta 4)
     ∷ Found (in_west 4 Activated ovn_6 (codes "http://a.test/a/4") ∷ without_ovn in_middle ∷ [])
     ∷ []

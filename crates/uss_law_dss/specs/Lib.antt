@@ -5,7 +5,7 @@ pub mod Step
 pub mod Fits
 pub mod Orderly
 pub mod Effects
-pub mod Told
+pub mod Notified
 pub mod Carried
 pub mod Causes
 pub mod Shown

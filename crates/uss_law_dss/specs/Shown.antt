@@ -14,7 +14,7 @@ listed_in _ = []
 abbrev pub shown_in : DssReply → List Reference
 shown_in (Found references) = references
 shown_in (Got reference) = reference ∷ []
-shown_in (Landed reference told) = reference ∷ []
-shown_in (Removed reference told) = reference ∷ []
+shown_in (Landed reference notified) = reference ∷ []
+shown_in (Removed reference notified) = reference ∷ []
 shown_in (Refused refusal) = listed_in refusal
 shown_in _ = []

@@ -32,16 +32,16 @@ put_ticket t [] = t ∷ []
 put_ticket t (x ∷ xs) = if nat_lt t.id x.id then t ∷ x ∷ xs else x ∷ put_ticket t xs
 
 -- another client's ticket, with an area that shares a point with some of these extents
-abbrev pub is_told : List ℕ → List Volume4D → Ticket → Bool
-is_told client extents t = not (same_text t.manager client) && reach extents t.area
+abbrev pub is_notified : List ℕ → List Volume4D → Ticket → Bool
+is_notified client extents t = not (same_text t.manager client) && reach extents t.area
 
--- the tickets of those that are told, with their index raised by 1, among the others
+-- the tickets of those that are notified, with their index raised by 1, among the others
 abbrev pub raised : List ℕ → List Volume4D → List Ticket → List Ticket
-raised client extents ts = map (λ t. if is_told client extents t then record t { index = t.index + 1 } else t) ts
+raised client extents ts = map (λ t. if is_notified client extents t then record t { index = t.index + 1 } else t) ts
 
--- those that are told, ascending by identifier, after their index rose
+-- those that are notified, ascending by identifier, after their index rose
 abbrev pub subscribers : List ℕ → List Volume4D → List Ticket → List Subscriber
-subscribers client extents ts = map (λ t. record { base = t.base; ticket = t.id; index = t.index + 1 }) (filter (is_told client extents) ts)
+subscribers client extents ts = map (λ t. record { base = t.base; ticket = t.id; index = t.index + 1 }) (filter (is_notified client extents) ts)
 
 -- the extents that a change takes the place of
 abbrev pub old_extents : Option Recorded → List Volume4D

@@ -1,4 +1,4 @@
--- Worked calls of three clients: a change and a removal, and which tickets they tell.
+-- Worked calls of three clients: a change and a removal, and which tickets they notify.
 use Rattle.std.specs.Prelude.{ℕ, ℤ, List, [], ◌∷◌, codes, Some, None, pos}
 use Rattle.uss_shape.specs.Shape.{corners}
 use Rattle.uss_vol4.specs.Volume.{Volume4D}
@@ -98,8 +98,8 @@ abbrev pub changed_reference : Reference
 changed_reference =
     record first_reference { version = 2; state = Activated; ovn = Some (codes "ovn-0000000000000002"); base = codes "http://a.test/a/2" }
 
--- The change tells the ticket of the old place too; the removal tells those of the place that was left last. A refused change
--- tells nobody.
+-- The change notifies the ticket near the old extents too; the removal those near the extents that were left last. A refused change
+-- notifies nobody.
 abbrev pub the_telling_replies : List DssReply
 the_telling_replies =
     TicketMade wide_ticket

@@ -2,7 +2,7 @@
 //!
 //! `specs/Service.antt` has the state, `specs/Refusals.antt` when a call is refused, `specs/Step.antt` what a call does, and
 //! `specs/Fits.antt` which replies fit a call. In the service's own words, apart from how these compute, `specs/Causes.antt` says why a
-//! call is refused, `specs/Carried.antt` what it does where it isn't, and `specs/Told.antt` who is told. The functions below do nothing:
+//! call is refused, `specs/Carried.antt` what it does where it isn't, and `specs/Notified.antt` who is notified. The functions below do nothing:
 //! their contracts carry the laws.
 #![tactic(auto)]
 
@@ -22,10 +22,10 @@ ghost use Rattle.uss_intent.specs.Refusals.{refusal_number};
 ghost use Rattle.uss_law_dss.specs.Lists.{Has};
 ghost use Rattle.uss_law_dss.specs.Refusals.{refusal_of, tests_of, does_not_fall};
 ghost use Rattle.uss_law_dss.specs.Service.{Service, empty, ovn_of, relevant};
-ghost use Rattle.uss_law_dss.specs.Step.{service_step, replies_to, state_after, found_in, is_told};
+ghost use Rattle.uss_law_dss.specs.Step.{service_step, replies_to, state_after, found_in, is_notified};
 ghost use Rattle.uss_law_dss.specs.Effects.{Effect};
 ghost use Rattle.uss_law_dss.specs.Orderly.{IsOrderly};
-ghost use Rattle.uss_law_dss.specs.Told.{IsToldOf, Tells, TellsNobody, Keeps};
+ghost use Rattle.uss_law_dss.specs.Notified.{IsNotifiedOf, Notifies, NotifiesNobody, Keeps};
 ghost use Rattle.uss_law_dss.specs.Carried.{NoneHolds, CarriedOut};
 ghost use Rattle.uss_law_dss.specs.Causes.{Cause};
 ghost use Rattle.uss_law_dss.specs.Answered.{Answers, SameAnswers};
@@ -43,12 +43,12 @@ pub fn worked_calls()
     ensures { replies_to empty calls ≡ the_replies }
 {}
 
-/// Two clients over one area: the key, the references that it lacks, who is told, and what is shown to whom.
+/// Two clients over one area: the key, the references that it lacks, who is notified, and what is shown to whom.
 pub fn contested_calls()
     ensures { replies_to empty contested ≡ the_contested_replies }
 {}
 
-/// A change tells the tickets of the place that was left, too; a removal tells those of the place that is removed.
+/// A change notifies the tickets near the extents that were left, too; a removal those near the extents that are removed.
 pub fn telling_calls()
     ensures { replies_to empty telling ≡ the_telling_replies }
 {}
@@ -70,15 +70,15 @@ pub fn last_calls()
     ensures versions { replies_to late_version last_changes ≡ the_last_replies }
 {}
 
-/// Which references are relevant to a change, which of them a query finds, and which tickets are told: those that have
+/// Which references are relevant to a change, which of them a query finds, and which tickets are notified: those that have
 /// a point in common, of airspace and time.
 pub fn sharing_is_of_points()
     ensures relevant { (s : Service) (flight : ℕ) (extents : List Volume4D) (r : Recorded)
         → Has (relevant flight extents s) r ↔ (Has s.references r × (r.reference.flight ≢ flight) × ListsShare r.extents extents) }
     ensures found { (area : Volume4D) (rs : List Recorded) (r : Recorded)
         → Has (found_in area rs) r ↔ (Has rs r × Any (λ v. Shares v area) r.extents) }
-    ensures told { (client : List ℕ) (extents : List Volume4D) (t : Ticket)
-        → IsTrue (is_told client extents t) ↔ ((t.manager ≢ client) × Any (λ v. Shares v t.area) extents) }
+    ensures notified { (client : List ℕ) (extents : List Volume4D) (t : Ticket)
+        → IsTrue (is_notified client extents t) ↔ ((t.manager ≢ client) × Any (λ v. Shares v t.area) extents) }
 {}
 
 /// What a call may do: it lands, removes, makes a ticket, takes a ticket out, or leaves all as it is; each with what
@@ -87,16 +87,16 @@ pub fn effects()
     ensures { (s : Service) (client : List ℕ) (ask : DssAsk) → Effect s client ask (service_step s client ask) }
 {}
 
-/// Who is told: the subscribers of a reply to a Put that lands are exactly the tickets of other clients whose area shares a point with
+/// Who is notified: the subscribers of a reply to a Put that lands are exactly the tickets of other clients whose area shares a point with
 /// old or new extents, those of a reply to a Remove the ones whose area shares with the extents that are taken out; their indexes rise by
 /// one, and no other ticket changes, nor any ticket at another call.
-pub fn who_is_told()
-    ensures landing { (s : Service) (client : List ℕ) (ask : DssAsk) (r : Reference) (told : List Subscriber)
-        → IsOrderly s → (service_step s client ask).0 ≡ Landed r told → Tells (IsToldOf s client ask) s.tickets (service_step s client ask).1.tickets told }
-    ensures removal { (s : Service) (client : List ℕ) (ask : DssAsk) (r : Reference) (told : List Subscriber)
-        → IsOrderly s → (service_step s client ask).0 ≡ Removed r told → Tells (IsToldOf s client ask) s.tickets (service_step s client ask).1.tickets told }
+pub fn who_is_notified()
+    ensures landing { (s : Service) (client : List ℕ) (ask : DssAsk) (r : Reference) (notified : List Subscriber)
+        → IsOrderly s → (service_step s client ask).0 ≡ Landed r notified → Notifies (IsNotifiedOf s client ask) s.tickets (service_step s client ask).1.tickets notified }
+    ensures removal { (s : Service) (client : List ℕ) (ask : DssAsk) (r : Reference) (notified : List Subscriber)
+        → IsOrderly s → (service_step s client ask).0 ≡ Removed r notified → Notifies (IsNotifiedOf s client ask) s.tickets (service_step s client ask).1.tickets notified }
     ensures other_calls { (s : Service) (client : List ℕ) (ask : DssAsk)
-        → IsOrderly s → TellsNobody (service_step s client ask).0 → Keeps s.tickets (service_step s client ask).1.tickets (service_step s client ask).0 }
+        → IsOrderly s → NotifiesNobody (service_step s client ask).0 → Keeps s.tickets (service_step s client ask).1.tickets (service_step s client ask).0 }
 {}
 
 /// A call of which no test holds is carried out: its reply is no refusal, and the state afterwards has what the call is for.

@@ -8,7 +8,7 @@ use Rattle.uss_event.specs.Plans.{is_plan}
 use Rattle.uss_event.specs.declared.details.Proposal.{Proposal}
 use Rattle.uss_event.specs.declared.entries.Entry.TheVariants as Enters
 use Rattle.uss_law_book.specs.Coding.{IsAsk, IsProposal, journal_length}
-use Rattle.uss_law_book.specs.Readings.{opening_of, is_held, is_done, trial_of, decision_of, holding_of, ending_of, jobs_of, open_job_of, last_of, is_job_of, has_ended, holdings_of, holding, is_ticket_open, is_ticket_gone, is_ticket_needed, owed_of, is_told, untold}
+use Rattle.uss_law_book.specs.Contents.{opening_of, is_held, is_done, trial_of, decision_of, holding_of, ending_of, jobs_of, open_job_of, last_of, is_job_of, has_ended, holdings_of, holding, is_ticket_open, is_ticket_gone, is_ticket_needed, owed_of, is_sent, unsent}
 use Rattle.uss_law_book.specs.Attempts.{attempt_of, held, held_state}
 use Rattle.uss_law_book.specs.Reserve.{need, reserved}
 use Rattle.uss_law_book.specs.Legal.{MayOpen, MayOpenTicket, ArePlans, MayFollow, IsLegal}
@@ -22,39 +22,39 @@ use Rattle.uss_law_duty.proofs.Staying.{stay_follows}
 use Rattle.uss_law_duty.proofs.Tickets.{gone_follows}
 
 room_flown_before : reserved (held_book) ≤ 536870912
-unfolding reserved need journal_length opening_of is_held is_done is_ticket_open is_ticket_gone decision_of untold owed_of holding_of ending_of is_told is_ticket_needed
+unfolding reserved need journal_length opening_of is_held is_done is_ticket_open is_ticket_gone decision_of unsent owed_of holding_of ending_of is_sent is_ticket_needed
 room_flown_before = omega arith
 
 room_flown_asked : reserved (held_book ++ flown_opened ∷ []) ≤ 536870912
-unfolding reserved need journal_length opening_of is_held is_done is_ticket_open is_ticket_gone decision_of untold owed_of holding_of ending_of is_told is_ticket_needed
+unfolding reserved need journal_length opening_of is_held is_done is_ticket_open is_ticket_gone decision_of unsent owed_of holding_of ending_of is_sent is_ticket_needed
 room_flown_asked = omega arith
 
 room_flown_ticket : reserved (flown_ticket_book) ≤ 536870912
-unfolding reserved need journal_length opening_of is_held is_done is_ticket_open is_ticket_gone decision_of untold owed_of holding_of ending_of is_told is_ticket_needed
+unfolding reserved need journal_length opening_of is_held is_done is_ticket_open is_ticket_gone decision_of unsent owed_of holding_of ending_of is_sent is_ticket_needed
 room_flown_ticket = omega arith
 
 room_strayed_before : reserved (flown_book) ≤ 536870912
-unfolding reserved need journal_length opening_of is_held is_done is_ticket_open is_ticket_gone decision_of untold owed_of holding_of ending_of is_told is_ticket_needed
+unfolding reserved need journal_length opening_of is_held is_done is_ticket_open is_ticket_gone decision_of unsent owed_of holding_of ending_of is_sent is_ticket_needed
 room_strayed_before = omega arith
 
-room_strayed_asked : reserved (flown_book ++ Enters.Opened 3 first_seen (straying 3) ∷ []) ≤ 536870912
-unfolding reserved need journal_length opening_of is_held is_done is_ticket_open is_ticket_gone decision_of untold owed_of holding_of ending_of is_told is_ticket_needed
+room_strayed_asked : reserved (flown_book ++ Enters.Opened (record { job = 3; moment = first_seen; ask = straying 3 }) ∷ []) ≤ 536870912
+unfolding reserved need journal_length opening_of is_held is_done is_ticket_open is_ticket_gone decision_of unsent owed_of holding_of ending_of is_sent is_ticket_needed
 room_strayed_asked = omega arith
 
 room_strayed_ticket : reserved (strayed_book) ≤ 536870912
-unfolding reserved need journal_length opening_of is_held is_done is_ticket_open is_ticket_gone decision_of untold owed_of holding_of ending_of is_told is_ticket_needed
+unfolding reserved need journal_length opening_of is_held is_done is_ticket_open is_ticket_gone decision_of unsent owed_of holding_of ending_of is_sent is_ticket_needed
 room_strayed_ticket = omega arith
 
 room_stay_before : reserved (flown_book) ≤ 536870912
-unfolding reserved need journal_length opening_of is_held is_done is_ticket_open is_ticket_gone decision_of untold owed_of holding_of ending_of is_told is_ticket_needed
+unfolding reserved need journal_length opening_of is_held is_done is_ticket_open is_ticket_gone decision_of unsent owed_of holding_of ending_of is_sent is_ticket_needed
 room_stay_before = omega arith
 
-room_stay_asked : reserved (flown_book ++ Enters.Opened 3 now (returning 3) ∷ []) ≤ 536870912
-unfolding reserved need journal_length opening_of is_held is_done is_ticket_open is_ticket_gone decision_of untold owed_of holding_of ending_of is_told is_ticket_needed
+room_stay_asked : reserved (flown_book ++ Enters.Opened (record { job = 3; moment = now; ask = returning 3 }) ∷ []) ≤ 536870912
+unfolding reserved need journal_length opening_of is_held is_done is_ticket_open is_ticket_gone decision_of unsent owed_of holding_of ending_of is_sent is_ticket_needed
 room_stay_asked = omega arith
 
 room_stay_ticket : reserved (staying_book) ≤ 536870912
-unfolding reserved need journal_length opening_of is_held is_done is_ticket_open is_ticket_gone decision_of untold owed_of holding_of ending_of is_told is_ticket_needed
+unfolding reserved need journal_length opening_of is_held is_done is_ticket_open is_ticket_gone decision_of unsent owed_of holding_of ending_of is_sent is_ticket_needed
 room_stay_ticket = omega arith
 
 is_flown : held 1 flown_book ≡ Some flown_pair
@@ -114,7 +114,7 @@ flown_valid =
       };
     }
 
-pub flown_opens : MayFollow held_book (Enters.Opened 2 now flown_ask)
+pub flown_opens : MayFollow held_book (Enters.Opened (record { job = 2; moment = now; ask = flown_ask }))
 flown_opens =
     record {
       first = refl;
@@ -169,7 +169,7 @@ strayed_valid =
       };
     }
 
-pub strayed_opens : MayFollow flown_book (Enters.Opened 3 first_seen (straying 3))
+pub strayed_opens : MayFollow flown_book (Enters.Opened (record { job = 3; moment = first_seen; ask = straying 3 }))
 strayed_opens =
     record {
       first = refl;
@@ -179,7 +179,7 @@ strayed_opens =
       room_after = room_strayed_asked;
     }
 
-strayed_may_open_ticket : MayOpenTicket (flown_book ++ Enters.Opened 3 first_seen (straying 3) ∷ []) 3
+strayed_may_open_ticket : MayOpenTicket (flown_book ++ Enters.Opened (record { job = 3; moment = first_seen; ask = straying 3 }) ∷ []) 3
 unfolding opening_of is_held is_done is_ticket_open
 strayed_may_open_ticket =
     record {
@@ -192,7 +192,7 @@ strayed_may_open_ticket =
       new = refl;
     }
 
-pub strayed_has_ticket : MayFollow (flown_book ++ Enters.Opened 3 first_seen (straying 3) ∷ []) (Enters.TicketOpen 3)
+pub strayed_has_ticket : MayFollow (flown_book ++ Enters.Opened (record { job = 3; moment = first_seen; ask = straying 3 }) ∷ []) (Enters.TicketOpen 3)
 strayed_has_ticket = record { first = refl; coding = omega arith; due = strayed_may_open_ticket; room_before = room_strayed_asked; room_after = room_strayed_ticket }
 
 -- it is to be flown again as it is
@@ -224,7 +224,7 @@ stay_valid =
       };
     }
 
-pub stay_opens : MayFollow flown_book (Enters.Opened 3 now (returning 3))
+pub stay_opens : MayFollow flown_book (Enters.Opened (record { job = 3; moment = now; ask = returning 3 }))
 stay_opens =
     record {
       first = refl;
@@ -234,7 +234,7 @@ stay_opens =
       room_after = room_stay_asked;
     }
 
-stay_may_open_ticket : MayOpenTicket (flown_book ++ Enters.Opened 3 now (returning 3) ∷ []) 3
+stay_may_open_ticket : MayOpenTicket (flown_book ++ Enters.Opened (record { job = 3; moment = now; ask = returning 3 }) ∷ []) 3
 unfolding opening_of is_held is_done is_ticket_open
 stay_may_open_ticket =
     record {
@@ -247,7 +247,7 @@ stay_may_open_ticket =
       new = refl;
     }
 
-pub stay_has_ticket : MayFollow (flown_book ++ Enters.Opened 3 now (returning 3) ∷ []) (Enters.TicketOpen 3)
+pub stay_has_ticket : MayFollow (flown_book ++ Enters.Opened (record { job = 3; moment = now; ask = returning 3 }) ∷ []) (Enters.TicketOpen 3)
 stay_has_ticket = record { first = refl; coding = omega arith; due = stay_may_open_ticket; room_before = room_stay_asked; room_after = room_stay_ticket }
 
 pub strayed_is_legal : IsLegal strayed_tried_book

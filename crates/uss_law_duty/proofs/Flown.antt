@@ -11,9 +11,9 @@ use Rattle.uss_intent.specs.declared.calls.DssReply.TheVariants as Replies
 use Rattle.uss_event.specs.declared.events.Answer.TheVariants.{Changed}
 use Rattle.uss_event.specs.declared.events.Said.TheVariants as Says
 use Rattle.uss_law_book.specs.Coding.{IsSubscriber, journal_length}
-use Rattle.uss_law_book.specs.Readings.{is_open, opening_of, is_held, is_done, trials_of, trial_of, owns, decision_of, holding_of, ending_of, is_job_of, has_ended, holdings_of, holding, is_ticket_open, is_ticket_gone, is_ticket_needed, owed_of, is_told, untold}
+use Rattle.uss_law_book.specs.Contents.{is_open, opening_of, is_held, is_done, trials_of, trial_of, owns, decision_of, holding_of, ending_of, is_job_of, has_ended, holdings_of, holding, is_ticket_open, is_ticket_gone, is_ticket_needed, owed_of, is_sent, unsent}
 use Rattle.uss_law_book.specs.Attempts.{Attempted, attempted, attempt_of, put_of}
-use Rattle.uss_law_book.specs.Lists.{Opening}
+use Rattle.uss_event.specs.declared.entries.Opening.{Opening}
 use Rattle.uss_law_book.specs.Reserve.{need, reserved}
 use Rattle.uss_law_book.specs.Legal.{MayTry, MayHold, MayFollow}
 use Rattle.uss_law_duty.specs.Duties.{MayStep}
@@ -26,23 +26,23 @@ use Rattle.uss_law_duty.specs.Worked.{now, owner, volume, proposal, flight, ovn,
 use Rattle.uss_law_duty.specs.Flown.{flown_ask, flown_ticket_book, flown_pending, flown_tried_book, flown_put, flown_ovn, flown_reference, flown_held, changed, flown_book, first_seen, around_it, with_around, straying, strayed_book, strayed_query, strayed_pending, strayed_put, strayed_tried_book, calls, replies_to}
 
 pub room_flown_ticket : reserved (flown_ticket_book) ≤ 536870912
-unfolding reserved need journal_length opening_of is_held is_done is_ticket_open is_ticket_gone decision_of untold owed_of holding_of ending_of is_told is_ticket_needed
+unfolding reserved need journal_length opening_of is_held is_done is_ticket_open is_ticket_gone decision_of unsent owed_of holding_of ending_of is_sent is_ticket_needed
 room_flown_ticket = omega arith
 
 pub room_flown_tried : reserved (flown_tried_book) ≤ 536870912
-unfolding reserved need journal_length opening_of is_held is_done is_ticket_open is_ticket_gone decision_of untold owed_of holding_of ending_of is_told is_ticket_needed
+unfolding reserved need journal_length opening_of is_held is_done is_ticket_open is_ticket_gone decision_of unsent owed_of holding_of ending_of is_sent is_ticket_needed
 room_flown_tried = omega arith
 
 pub room_flown : reserved (flown_book) ≤ 536870912
-unfolding reserved need journal_length opening_of is_held is_done is_ticket_open is_ticket_gone decision_of untold owed_of holding_of ending_of is_told is_ticket_needed
+unfolding reserved need journal_length opening_of is_held is_done is_ticket_open is_ticket_gone decision_of unsent owed_of holding_of ending_of is_sent is_ticket_needed
 room_flown = omega arith
 
 room_strayed : reserved (strayed_book) ≤ 536870912
-unfolding reserved need journal_length opening_of is_held is_done is_ticket_open is_ticket_gone decision_of untold owed_of holding_of ending_of is_told is_ticket_needed
+unfolding reserved need journal_length opening_of is_held is_done is_ticket_open is_ticket_gone decision_of unsent owed_of holding_of ending_of is_sent is_ticket_needed
 room_strayed = omega arith
 
 room_strayed_tried : reserved (strayed_tried_book) ≤ 536870912
-unfolding reserved need journal_length opening_of is_held is_done is_ticket_open is_ticket_gone decision_of untold owed_of holding_of ending_of is_told is_ticket_needed
+unfolding reserved need journal_length opening_of is_held is_done is_ticket_open is_ticket_gone decision_of unsent owed_of holding_of ending_of is_sent is_ticket_needed
 room_strayed_tried = omega arith
 
 -- the flight is to be flown: the attempt is from what is held
@@ -64,7 +64,7 @@ may_try_flown =
       round = omega arith;
       next = refl;
       one_of = omega arith;
-      base = refl;
+      current = refl;
       few = omega arith;
       blind = tt;
     }
@@ -220,7 +220,7 @@ may_try_strayed =
       round = omega arith;
       next = refl;
       one_of = omega arith;
-      base = refl;
+      current = refl;
       few = omega arith;
       blind = (refl, refl);
     }

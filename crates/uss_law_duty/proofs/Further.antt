@@ -17,9 +17,9 @@ use Rattle.uss_event.specs.declared.events.Event.TheVariants as Comes
 use Rattle.uss_law_dss.specs.Lists.{Has}
 use Rattle.uss_law_dss.proofs.Tests.{some_same}
 use Rattle.uss_law_book.specs.Coding.{IsSubscriber, journal_length}
-use Rattle.uss_law_book.specs.Readings.{is_open, opening_of, is_held, is_done, trials_of, trial_of, decision_of, holding_of, ending_of, jobs_of, open_job_of, last_of, is_job_of, has_ended, holdings_of, holding, is_ticket_open, is_ticket_gone, owed_of, is_told, untold}
+use Rattle.uss_law_book.specs.Contents.{is_open, opening_of, is_held, is_done, trials_of, trial_of, decision_of, holding_of, ending_of, jobs_of, open_job_of, last_of, is_job_of, has_ended, holdings_of, holding, is_ticket_open, is_ticket_gone, owed_of, is_sent, unsent}
 use Rattle.uss_law_book.specs.Attempts.{Attempted, attempted, attempt_of, held, held_state}
-use Rattle.uss_law_book.specs.Lists.{Opening}
+use Rattle.uss_event.specs.declared.entries.Opening.{Opening}
 use Rattle.uss_law_book.specs.Reserve.{need, reserved}
 use Rattle.uss_law_book.specs.Legal.{MayOpen, MayTry, MayEnd, MayFollow}
 use Rattle.uss_law_duty.proofs.Worked.{each_one, none_sent, room_ticket, room_held}
@@ -32,15 +32,15 @@ use Rattle.uss_law_duty.specs.Answers.{kept_answer}
 use Rattle.uss_law_duty.specs.Sayings.{IsKeptAnswer}
 
 room_keyed : reserved (keyed_book) ≤ 536870912
-unfolding reserved need journal_length opening_of is_held is_done is_ticket_open is_ticket_gone decision_of untold owed_of holding_of ending_of is_told
+unfolding reserved need journal_length opening_of is_held is_done is_ticket_open is_ticket_gone decision_of unsent owed_of holding_of ending_of is_sent
 room_keyed = omega arith
 
 room_ending : reserved (ending_book) ≤ 536870912
-unfolding reserved need journal_length opening_of is_held is_done is_ticket_open is_ticket_gone decision_of untold owed_of holding_of ending_of is_told
+unfolding reserved need journal_length opening_of is_held is_done is_ticket_open is_ticket_gone decision_of unsent owed_of holding_of ending_of is_sent
 room_ending = omega arith
 
 room_end_done : reserved (ending_book ++ end_done ∷ []) ≤ 536870912
-unfolding reserved need journal_length opening_of is_held is_done is_ticket_open is_ticket_gone decision_of untold owed_of holding_of ending_of is_told
+unfolding reserved need journal_length opening_of is_held is_done is_ticket_open is_ticket_gone decision_of unsent owed_of holding_of ending_of is_sent
 room_end_done = omega arith
 
 the_opening : Opening
@@ -61,7 +61,7 @@ may_try_keyed =
       round = omega arith;
       next = refl;
       one_of = omega arith;
-      base = refl;
+      current = refl;
       few = omega arith;
       blind = tt;
     }

@@ -12,10 +12,10 @@ use Rattle.uss_event.specs.declared.events.Answer.TheVariants.{Steady}
 use Rattle.uss_event.specs.declared.events.Said.TheVariants as Says
 use Rattle.uss_event.specs.declared.events.Event.TheVariants as Comes
 use Rattle.uss_law_book.specs.Coding.{IsSubscriber, journal_length}
-use Rattle.uss_law_book.specs.Readings.{opening_of, is_held, is_done, trial_of, decision_of, holding_of, ending_of, is_job_of, has_ended, holdings_of, holding, is_ticket_open, is_ticket_gone, owed_of, is_told, untold, owns, trials_of}
+use Rattle.uss_law_book.specs.Contents.{opening_of, is_held, is_done, trial_of, decision_of, holding_of, ending_of, is_job_of, has_ended, holdings_of, holding, is_ticket_open, is_ticket_gone, owed_of, is_sent, unsent, owns, trials_of}
 use Rattle.uss_law_book.specs.Attempts.{attempt_of, held}
 use Rattle.uss_law_book.specs.Reserve.{need, reserved}
-use Rattle.uss_law_book.specs.Legal.{MayHold, MayTell, MayFollow}
+use Rattle.uss_law_book.specs.Legal.{MayHold, MaySend, MayFollow}
 use Rattle.uss_law_duty.proofs.Worked.{each_one, none_sent, room_tried}
 use Rattle.uss_law_duty.proofs.Further.{is_held_now}
 use Rattle.uss_law_duty.specs.Duties.{MayStep, GoesOn}
@@ -128,11 +128,11 @@ unfolding held holding holdings_of has_ended is_job_of opening_of attempt_of tri
 is_held_then = refl
 
 room_owing : reserved owing_book ≤ 536870912
-unfolding reserved need journal_length opening_of is_held is_done is_ticket_open is_ticket_gone decision_of untold owed_of holding_of ending_of is_told
+unfolding reserved need journal_length opening_of is_held is_done is_ticket_open is_ticket_gone decision_of unsent owed_of holding_of ending_of is_sent
 room_owing = omega arith
 
 room_notified : reserved (owing_book ++ notified ∷ []) ≤ 536870912
-unfolding reserved need journal_length opening_of is_held is_done is_ticket_open is_ticket_gone decision_of untold owed_of holding_of ending_of is_told
+unfolding reserved need journal_length opening_of is_held is_done is_ticket_open is_ticket_gone decision_of unsent owed_of holding_of ending_of is_sent
 room_notified = omega arith
 
 base_is : is_base subscriber.base ≡ true
@@ -162,12 +162,12 @@ owing_follows =
       room_after = room_owing;
     }
 
-may_tell : MayTell owing_book 1 0
-unfolding is_held is_done owed_of holding_of ending_of is_told
-may_tell = record { closed = refl; owed = omega arith; new = refl }
+may_send : MaySend owing_book 1 0
+unfolding is_held is_done owed_of holding_of ending_of is_sent
+may_send = record { closed = refl; owed = omega arith; new = refl }
 
 pub notified_follows : MayFollow owing_book notified
-notified_follows = record { first = refl; coding = (omega arith, omega arith); due = may_tell; room_before = room_owing; room_after = room_notified }
+notified_follows = record { first = refl; coding = (omega arith, omega arith); due = may_send; room_before = room_owing; room_after = room_notified }
 
 not_awaited : GoesOn (Comes.Peer notify Peers.Noted) owing_book [] Says.Nothing
 unfolding is_held is_done opening_of
@@ -197,8 +197,8 @@ tells =
       hears = inl refl;
     }
 
-pub told : MayStep owing_book [] now (Comes.Peer notify Peers.Noted) (Some notified) [] Says.Nothing []
-told =
+pub notifying : MayStep owing_book [] now (Comes.Peer notify Peers.Noted) (Some notified) [] Says.Nothing []
+notifying =
     record {
       acts =
           record {

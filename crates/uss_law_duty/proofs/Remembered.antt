@@ -12,7 +12,7 @@ use Rattle.uss_event.specs.Heard.News.{Heard, Forgotten}
 use Rattle.uss_law_duty.specs.Kept.{AreApart, AreCrowding}
 use Rattle.uss_law_duty.proofs.Kept.{flight, version, each_news, kept_append, none_of, without_has, without_round, apart_push, apart_news, found_apart, keeps_all}
 
--- what is kept of the flight: a pair that isn't older than the version, and behind it what was heard since
+-- what is kept of the flight: a pair that isn't older than the version, and after it what was heard since
 pub record IsThere (f v : ℕ) (past : List News) (kept : List OperationalIntent) : Type 0 where
   pub front : List OperationalIntent
   pub pair : OperationalIntent

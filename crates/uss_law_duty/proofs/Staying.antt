@@ -17,9 +17,9 @@ use Rattle.uss_event.specs.declared.events.Said.TheVariants as Says
 use Rattle.uss_law_dss.specs.Lists.{Has}
 use Rattle.uss_law_dss.proofs.Tests.{some_same}
 use Rattle.uss_law_book.specs.Coding.{journal_length}
-use Rattle.uss_law_book.specs.Readings.{is_open, opening_of, is_held, is_done, trials_of, trial_of, decision_of, holding_of, ending_of, is_job_of, has_ended, holdings_of, holding, is_ticket_open, is_ticket_gone, is_ticket_needed, owed_of, is_told, untold}
+use Rattle.uss_law_book.specs.Contents.{is_open, opening_of, is_held, is_done, trials_of, trial_of, decision_of, holding_of, ending_of, is_job_of, has_ended, holdings_of, holding, is_ticket_open, is_ticket_gone, is_ticket_needed, owed_of, is_sent, unsent}
 use Rattle.uss_law_book.specs.Attempts.{Attempted, attempted, attempt_of, put_of, held}
-use Rattle.uss_law_book.specs.Lists.{Opening}
+use Rattle.uss_event.specs.declared.entries.Opening.{Opening}
 use Rattle.uss_law_book.specs.Reserve.{need, reserved}
 use Rattle.uss_law_book.specs.Legal.{MayTry, MayFollow}
 use Rattle.uss_law_duty.specs.Duties.{MayStep}
@@ -31,11 +31,11 @@ use Rattle.uss_law_duty.specs.Worked.{now, owner, volume, proposal, flight, ovn,
 use Rattle.uss_law_duty.specs.Flown.{flown_ovn, flown_pair, returning, urgent_pair, staying_book, details_of_urgent, staying, staying_put, stays_as, calls}
 
 room_staying : reserved (staying_book) ≤ 536870912
-unfolding reserved need journal_length opening_of is_held is_done is_ticket_open is_ticket_gone decision_of untold owed_of holding_of ending_of is_told is_ticket_needed
+unfolding reserved need journal_length opening_of is_held is_done is_ticket_open is_ticket_gone decision_of unsent owed_of holding_of ending_of is_sent is_ticket_needed
 room_staying = omega arith
 
 room_stayed : reserved (staying_book ++ staying ∷ []) ≤ 536870912
-unfolding reserved need journal_length opening_of is_held is_done is_ticket_open is_ticket_gone decision_of untold owed_of holding_of ending_of is_told is_ticket_needed
+unfolding reserved need journal_length opening_of is_held is_done is_ticket_open is_ticket_gone decision_of unsent owed_of holding_of ending_of is_sent is_ticket_needed
 room_stayed = omega arith
 
 stay_opening : Opening
@@ -56,7 +56,7 @@ may_try_stay =
       round = omega arith;
       next = refl;
       one_of = omega arith;
-      base = refl;
+      current = refl;
       few = omega arith;
       blind = tt;
     }

@@ -6,7 +6,7 @@ use Rattle.uss_event.specs.declared.entries.Entry.TheVariants as Enters
 use Rattle.uss_event.specs.declared.events.Event.TheVariants as Comes
 use Rattle.uss_event.specs.declared.events.Said.TheVariants as Says
 use Rattle.uss_law_book.specs.Coding.{journal_length}
-use Rattle.uss_law_book.specs.Readings.{opening_of, is_held, is_done, decision_of, holding_of, ending_of, is_job_of, has_ended, is_ticket_open, is_ticket_gone, is_ticket_needed, owed_of, is_told, untold}
+use Rattle.uss_law_book.specs.Contents.{opening_of, is_held, is_done, decision_of, holding_of, ending_of, is_job_of, has_ended, is_ticket_open, is_ticket_gone, is_ticket_needed, owed_of, is_sent, unsent}
 use Rattle.uss_law_book.specs.Reserve.{need, reserved}
 use Rattle.uss_law_book.specs.Legal.{MayRetire, MayFollow}
 use Rattle.uss_law_duty.specs.Duties.{MayStep, GoesOn}
@@ -69,11 +69,11 @@ takes_out =
     }
 
 room_ended : reserved (ending_book ++ end_done ∷ []) ≤ 536870912
-unfolding reserved need journal_length opening_of is_held is_done is_ticket_open is_ticket_gone decision_of untold owed_of holding_of ending_of is_told is_ticket_needed
+unfolding reserved need journal_length opening_of is_held is_done is_ticket_open is_ticket_gone decision_of unsent owed_of holding_of ending_of is_sent is_ticket_needed
 room_ended = omega arith
 
 room_gone : reserved (ending_book ++ end_done ∷ Enters.TicketGone 1 ∷ []) ≤ 536870912
-unfolding reserved need journal_length opening_of is_held is_done is_ticket_open is_ticket_gone decision_of untold owed_of holding_of ending_of is_told is_ticket_needed
+unfolding reserved need journal_length opening_of is_held is_done is_ticket_open is_ticket_gone decision_of unsent owed_of holding_of ending_of is_sent is_ticket_needed
 room_gone = omega arith
 
 may_retire : MayRetire (ending_book ++ end_done ∷ []) 1

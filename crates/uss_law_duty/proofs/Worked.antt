@@ -22,9 +22,9 @@ use Rattle.uss_event.specs.declared.events.Said.TheVariants as Says
 use Rattle.uss_event.specs.declared.events.Event.TheVariants as Comes
 use Rattle.uss_law_dss.specs.Lists.{Has}
 use Rattle.uss_law_book.specs.Coding.{IsAsk, IsProposal, IsSubscriber, journal_length}
-use Rattle.uss_law_book.specs.Readings.{is_open, opening_of, is_held, is_done, trials_of, trial_of, owns, decision_of, holding_of, ending_of, jobs_of, open_job_of, last_of, has_ended, holdings_of, holding, is_ticket_open, is_ticket_gone, owed_of, is_told, untold}
+use Rattle.uss_law_book.specs.Contents.{is_open, opening_of, is_held, is_done, trials_of, trial_of, owns, decision_of, holding_of, ending_of, jobs_of, open_job_of, last_of, has_ended, holdings_of, holding, is_ticket_open, is_ticket_gone, owed_of, is_sent, unsent}
 use Rattle.uss_law_book.specs.Attempts.{Attempted, attempted, attempt_of, put_of, held}
-use Rattle.uss_law_book.specs.Lists.{Opening}
+use Rattle.uss_event.specs.declared.entries.Opening.{Opening}
 use Rattle.uss_law_book.specs.Reserve.{need, reserved}
 use Rattle.uss_law_book.specs.Legal.{MayOpen, MayOpenTicket, MayTry, MayHold, MayDecide, MayEnd, ArePlans, MayFollow}
 use Rattle.uss_law_duty.specs.Duties.{MayStep}
@@ -92,7 +92,7 @@ unfolding reserved need journal_length
 room_before = omega arith
 
 room_after : reserved (new_book ++ opened ∷ []) ≤ 536870912
-unfolding reserved need journal_length opening_of is_held is_done is_ticket_open is_ticket_gone untold owed_of holding_of ending_of is_told
+unfolding reserved need journal_length opening_of is_held is_done is_ticket_open is_ticket_gone unsent owed_of holding_of ending_of is_sent
 room_after = omega arith
 
 are_plans : ArePlans Accepted 0 4 (proposal ∷ [])
@@ -156,27 +156,27 @@ pub none_sent : (P : Outgoing → Type 0) (x : Outgoing) → Has [] x → P x
 none_sent P x h = absurd h
 
 room_asked : reserved (asked_book) ≤ 536870912
-unfolding reserved need journal_length opening_of is_held is_done is_ticket_open is_ticket_gone decision_of untold owed_of holding_of ending_of is_told
+unfolding reserved need journal_length opening_of is_held is_done is_ticket_open is_ticket_gone decision_of unsent owed_of holding_of ending_of is_sent
 room_asked = omega arith
 
 pub room_ticket : reserved (ticket_book) ≤ 536870912
-unfolding reserved need journal_length opening_of is_held is_done is_ticket_open is_ticket_gone decision_of untold owed_of holding_of ending_of is_told
+unfolding reserved need journal_length opening_of is_held is_done is_ticket_open is_ticket_gone decision_of unsent owed_of holding_of ending_of is_sent
 room_ticket = omega arith
 
 pub room_tried : reserved (tried_book) ≤ 536870912
-unfolding reserved need journal_length opening_of is_held is_done is_ticket_open is_ticket_gone decision_of untold owed_of holding_of ending_of is_told
+unfolding reserved need journal_length opening_of is_held is_done is_ticket_open is_ticket_gone decision_of unsent owed_of holding_of ending_of is_sent
 room_tried = omega arith
 
 room_cancelled : reserved (cancelled_book) ≤ 536870912
-unfolding reserved need journal_length opening_of is_held is_done is_ticket_open is_ticket_gone decision_of untold owed_of holding_of ending_of is_told
+unfolding reserved need journal_length opening_of is_held is_done is_ticket_open is_ticket_gone decision_of unsent owed_of holding_of ending_of is_sent
 room_cancelled = omega arith
 
 pub room_held : reserved (held_book) ≤ 536870912
-unfolding reserved need journal_length opening_of is_held is_done is_ticket_open is_ticket_gone decision_of untold owed_of holding_of ending_of is_told
+unfolding reserved need journal_length opening_of is_held is_done is_ticket_open is_ticket_gone decision_of unsent owed_of holding_of ending_of is_sent
 room_held = omega arith
 
 room_done : reserved (cancelled_book ++ done ∷ []) ≤ 536870912
-unfolding reserved need journal_length opening_of is_held is_done is_ticket_open is_ticket_gone decision_of untold owed_of holding_of ending_of is_told
+unfolding reserved need journal_length opening_of is_held is_done is_ticket_open is_ticket_gone decision_of unsent owed_of holding_of ending_of is_sent
 room_done = omega arith
 
 pub the_opening : Opening
@@ -239,7 +239,7 @@ may_try =
       round = omega arith;
       next = refl;
       one_of = omega arith;
-      base = refl;
+      current = refl;
       few = omega arith;
       blind = tt;
     }

@@ -11,8 +11,12 @@ use Rattle.uss_event.specs.declared.events.Event.{Event}
 use Rattle.uss_event.specs.declared.events.Event.TheVariants as Comes
 use Rattle.uss_event.specs.declared.calls.PeerCall.{PeerCall}
 use Rattle.uss_event.specs.declared.calls.PeerCall.TheVariants as Calls
-use Rattle.uss_law_book.specs.Lists.{Opening, Trial, Holding, Closing, openings}
-use Rattle.uss_law_book.specs.Readings.{opening_of, trial_of, holding_of, ending_of}
+use Rattle.uss_event.specs.declared.entries.Opening.{Opening}
+use Rattle.uss_event.specs.declared.entries.Trial.{Trial}
+use Rattle.uss_event.specs.declared.entries.Holding.{Holding}
+use Rattle.uss_event.specs.declared.entries.Closing.{Closing}
+use Rattle.uss_law_book.specs.Lists.{openings}
+use Rattle.uss_law_book.specs.Contents.{opening_of, trial_of, holding_of, ending_of}
 
 -- these answers say how a request ended, and are kept
 abbrev pub is_final : Answer → Bool
@@ -59,7 +63,7 @@ job_of_request flight number book = find (λ o. (o.ask.flight == flight) && (o.a
 
 abbrev pub job_of_call : PeerCall → ℕ
 job_of_call (Calls.Details job flight manager base) = job
-job_of_call (Calls.Notify job place base note) = job
+job_of_call (Calls.Notify job index base note) = job
 
 -- the job that an event's request or call names
 abbrev pub job_named : Event → List Entry → Option Opening

@@ -16,7 +16,7 @@ use Rattle.uss_event.specs.declared.events.Event.{Event}
 use Rattle.uss_event.specs.declared.events.Event.TheVariants as Comes
 use Rattle.uss_law_dss.specs.Lists.{Has}
 use Rattle.uss_law_book.specs.Lists.{owner_of}
-use Rattle.uss_law_book.specs.Readings.{opening_of, is_closed}
+use Rattle.uss_law_book.specs.Contents.{opening_of, is_closed}
 use Rattle.uss_law_book.specs.Legal.{MayFollow}
 use Rattle.uss_event.specs.Heard.{News, brought}
 use Rattle.uss_law_duty.specs.Answers.{job_of_call}
@@ -39,7 +39,7 @@ is_ticket_remove _ = false
 
 abbrev pub is_notify : PeerCall → Bool
 is_notify (Calls.Details job flight manager base) = false
-is_notify (Calls.Notify job place base note) = true
+is_notify (Calls.Notify job index base note) = true
 
 -- a reply to a call of a job, but not to a chore of a closed one: to take its ticket out, or to notify
 abbrev pub is_awaited : ℕ → Bool → List Entry → Bool

@@ -21,8 +21,8 @@ use Rattle.uss_event.specs.declared.events.Event.{Event}
 use Rattle.uss_event.specs.declared.events.Event.TheVariants as Comes
 use Rattle.uss_law_dss.specs.Lists.{Has}
 use Rattle.uss_law_dss.specs.Fits.{fits}
-use Rattle.uss_law_book.specs.Lists.{Opening}
-use Rattle.uss_law_book.specs.Readings.{opening_of, is_open, decision_of, is_ended}
+use Rattle.uss_event.specs.declared.entries.Opening.{Opening}
+use Rattle.uss_law_book.specs.Contents.{opening_of, is_open, decision_of, is_ended}
 use Rattle.uss_law_book.specs.Attempts.{Attempted, attempt_of, extents_of, put_of, held}
 use Rattle.uss_event.specs.Heard.{News, brought}
 use Rattle.uss_event.specs.Heard.News.{Heard}
@@ -55,8 +55,8 @@ KeyOf owner book heard event job tag key after =
     (ovn : List ℕ) → Has key ovn → IsClearOvn owner.table book heard event a (held opening.ask.flight book) ovn
 
 abbrev pub KeyIsClear : Owner → List Entry → List News → Event → Entry → Type 0
-KeyIsClear owner book heard event (Pending job tag alternative previous key) =
-    KeyOf owner book heard event job tag key (book ++ Pending job tag alternative previous key ∷ [])
+KeyIsClear owner book heard event (Pending t) =
+    KeyOf owner book heard event t.job t.tag t.key (book ++ Pending t ∷ [])
 KeyIsClear owner book heard event _ = Unit {0}
 
 -- the tag that a reference shows; one that shows no OVN is taken as one without a tag
@@ -95,7 +95,7 @@ pub record HoldsByReply (owner : Owner) (book : List Entry) (event : Event) (job
   pub version_is : reference.version ≡ version
 
 abbrev pub HeldIsShown : Owner → List Entry → Event → Entry → Type 0
-HeldIsShown owner book event (Held job tag ovn version owed) = HoldsByReply owner book event job tag ovn version
+HeldIsShown owner book event (Held h) = HoldsByReply owner book event h.job h.tag h.ovn h.version
 HeldIsShown owner book event _ = Unit {0}
 
 -- the reply says that the reference, or the ticket, was removed now or before
@@ -142,7 +142,7 @@ EndsAs owner book event job end =
     (is_ended end ≡ true → EndsByReply owner book event job) × (is_some (decision_of job book) ≡ true → LosesByReply owner event job)
 
 abbrev pub RemovalIsShown : Owner → List Entry → Event → Entry → Type 0
-RemovalIsShown owner book event (Done job end) = EndsAs owner book event job end
+RemovalIsShown owner book event (Done d) = EndsAs owner book event d.job d.end
 RemovalIsShown owner book event (TicketGone job) = LosesByReply owner event job
 RemovalIsShown owner book event _ = Unit {0}
 

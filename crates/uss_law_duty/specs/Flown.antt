@@ -39,14 +39,14 @@ abbrev pub flown_ask : FlightAsk
 flown_ask = record { flight = 1; number = 2; wish = Put Activated 0 4 (proposal ∷ []) }
 
 abbrev pub flown_opened : Entry
-flown_opened = Enters.Opened 2 now flown_ask
+flown_opened = Enters.Opened (record { job = 2; moment = now; ask = flown_ask })
 
 abbrev pub flown_ticket_book : List Entry
 flown_ticket_book = held_book ++ flown_opened ∷ Enters.TicketOpen 2 ∷ []
 
 -- the attempt is from what is held: its Put names the OVN of that
 abbrev pub flown_pending : Entry
-flown_pending = Enters.Pending 2 2 0 (Some ovn) []
+flown_pending = Enters.Pending (record { job = 2; tag = 2; alternative = 0; previous = Some ovn; key = [] })
 
 abbrev pub flown_tried_book : List Entry
 flown_tried_book = flown_ticket_book ++ flown_pending ∷ []
@@ -62,7 +62,7 @@ flown_reference =
     record the_reference { version = 2; state = Activated; ovn = Some flown_ovn; base = codes "http://uss1.test/a/2"; ticket = ticket_number 1 2 }
 
 abbrev pub flown_held : Entry
-flown_held = Enters.Held 2 2 flown_ovn 2 []
+flown_held = Enters.Held (record { job = 2; tag = 2; ovn = flown_ovn; version = 2; owed = [] })
 
 abbrev pub changed : Said
 changed = Says.Answer (Changed flight 2 0 flown_ovn 2)
@@ -87,13 +87,13 @@ straying number = record { flight = 1; number = number; wish = Put Nonconforming
 
 -- the job of the straying flight has its ticket, and makes its attempt
 abbrev pub strayed_book : List Entry
-strayed_book = flown_book ++ Enters.Opened 3 first_seen (straying 3) ∷ Enters.TicketOpen 3 ∷ []
+strayed_book = flown_book ++ Enters.Opened (record { job = 3; moment = first_seen; ask = straying 3 }) ∷ Enters.TicketOpen 3 ∷ []
 
 abbrev pub strayed_query : DssAsk
 strayed_query = Asks.Query around_it
 
 abbrev pub strayed_pending : Entry
-strayed_pending = Enters.Pending 3 3 0 (Some flown_ovn) []
+strayed_pending = Enters.Pending (record { job = 3; tag = 3; alternative = 0; previous = Some flown_ovn; key = [] })
 
 abbrev pub strayed_put : DssAsk
 strayed_put = Asks.Put flight (Some flown_ovn) (volume ∷ around_it ∷ []) [] Nonconforming (codes "http://uss1.test/a/3") (ticket_number 1 3)
@@ -118,13 +118,13 @@ urgent_pair = record { reference = other_reference; details = record { volumes =
 
 -- the flown flight is to be recorded again as it is: its job has its ticket, and hears of the other flight
 abbrev pub staying_book : List Entry
-staying_book = flown_book ++ Enters.Opened 3 now (returning 3) ∷ Enters.TicketOpen 3 ∷ []
+staying_book = flown_book ++ Enters.Opened (record { job = 3; moment = now; ask = returning 3 }) ∷ Enters.TicketOpen 3 ∷ []
 
 abbrev pub details_of_urgent : PeerCall
 details_of_urgent = Calls.Details 3 (flight_number 2 1) (codes "uss2") (codes "http://uss2.test/a/1")
 
 abbrev pub staying : Entry
-staying = Enters.Pending 3 3 0 (Some flown_ovn) (other_ovn ∷ [])
+staying = Enters.Pending (record { job = 3; tag = 3; alternative = 0; previous = Some flown_ovn; key = other_ovn ∷ [] })
 
 abbrev pub staying_put : DssAsk
 staying_put = Asks.Put flight (Some flown_ovn) (volume ∷ []) (other_ovn ∷ []) Activated (codes "http://uss1.test/a/3") (ticket_number 1 3)

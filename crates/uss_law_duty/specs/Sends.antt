@@ -17,8 +17,8 @@ use Rattle.uss_event.specs.declared.calls.PeerCall.{PeerCall}
 use Rattle.uss_event.specs.declared.calls.PeerCall.TheVariants as Calls
 use Rattle.uss_event.specs.declared.calls.Outgoing.{Outgoing}
 use Rattle.uss_event.specs.declared.calls.Outgoing.TheVariants as Goes
-use Rattle.uss_law_book.specs.Lists.{Opening}
-use Rattle.uss_law_book.specs.Readings.{opening_of, is_closed, is_open, decision_of, base_of, is_ticket_open, is_ticket_needed}
+use Rattle.uss_event.specs.declared.entries.Opening.{Opening}
+use Rattle.uss_law_book.specs.Contents.{opening_of, is_closed, is_open, decision_of, current_ovn_of, is_ticket_open, is_ticket_needed}
 use Rattle.uss_law_book.specs.Attempts.{Attempted, attempt_of, put_of, held}
 use Rattle.uss_law_duty.specs.Answers.{flight_of}
 
@@ -37,7 +37,7 @@ pub record IsRemoveOf (owner : Owner) (book : List Entry) (job : ℕ) (ask : Dss
   pub opened : opening_of job book ≡ Some opening
   pub end : opening.ask.wish ≡ End
   pub unclosed : is_closed job book ≡ false
-  pub base : base_of opening.ask.flight book ≡ Some ovn
+  pub base : current_ovn_of opening.ask.flight book ≡ Some ovn
   pub is : ask ≡ Asks.Remove (flight_of owner opening) ovn
 
 -- all extents of all alternatives
@@ -48,7 +48,7 @@ all_extents proposals = flat_map (λ (p : Proposal). p.volumes ++ p.off_nominal)
 abbrev pub area_round : List Proposal → Volume4D
 area_round proposals = volume_of (bounding_box (all_extents proposals))
 
--- the call that makes a job's ticket, to be told at the configured base URL
+-- the call that makes a job's ticket, to be notified at the configured base URL
 abbrev pub ticket_put : Owner → ℕ → List Proposal → DssAsk
 ticket_put owner job proposals = Asks.TicketPut (ticket_number owner.number job) (area_round proposals) owner.base
 
@@ -103,7 +103,7 @@ pub record IsHeldPair (book : List Entry) (p : OperationalIntent) : Type 0 where
 -- the pair of a note is held
 abbrev pub NotesAreHeld : List Entry → PeerCall → Type 0
 NotesAreHeld book (Calls.Details job flight manager base) = Unit {0}
-NotesAreHeld book (Calls.Notify job place base note) = IfSome note.pair (IsHeldPair book)
+NotesAreHeld book (Calls.Notify job index base note) = IfSome note.pair (IsHeldPair book)
 
 -- each of these, of a call of the discovery service or of another supplier
 abbrev pub OfDss : (ℕ → DssAsk → Type 0) → Outgoing → Type 0

@@ -70,19 +70,19 @@ ovn = codes "ovn-0000000000000001"
 
 -- the entries, and the book after each
 abbrev pub opened : Entry
-opened = Enters.Opened 1 now ask
+opened = Enters.Opened (record { job = 1; moment = now; ask = ask })
 
 abbrev pub heard_open : Entry
 heard_open = Enters.TicketOpen 1
 
 abbrev pub pending : Entry
-pending = Enters.Pending 1 1 0 None []
+pending = Enters.Pending (record { job = 1; tag = 1; alternative = 0; previous = None; key = [] })
 
 abbrev pub recorded : Entry
-recorded = Enters.Held 1 1 ovn 1 []
+recorded = Enters.Held (record { job = 1; tag = 1; ovn = ovn; version = 1; owed = [] })
 
 abbrev pub cancelling : Entry
-cancelling = Enters.Deciding 1 Ends.Cancelled
+cancelling = Enters.Deciding (record { job = 1; end = Ends.Cancelled })
 
 abbrev pub new_book : List Entry
 new_book = Enters.Owner owner ∷ []
@@ -146,7 +146,7 @@ abbrev pub held_book : List Entry
 held_book = tried_book ++ recorded ∷ []
 
 abbrev pub done : Entry
-done = Enters.Done 1 Ends.Cancelled
+done = Enters.Done (record { job = 1; end = Ends.Cancelled })
 
 abbrev pub get : DssAsk
 get = Asks.Get flight
@@ -179,7 +179,7 @@ abbrev pub other_pair : OperationalIntent
 other_pair = record { reference = other_reference; details = record { volumes = above ∷ []; off_nominal = []; priority = 0 } }
 
 abbrev pub keyed : Entry
-keyed = Enters.Pending 1 1 0 None (other_ovn ∷ [])
+keyed = Enters.Pending (record { job = 1; tag = 1; alternative = 0; previous = None; key = other_ovn ∷ [] })
 
 abbrev pub keyed_put : DssAsk
 keyed_put = Asks.Put flight None (volume ∷ []) (other_ovn ∷ []) Accepted (codes "http://uss1.test/a/1") ticket
@@ -199,7 +199,7 @@ abbrev pub end_ask : FlightAsk
 end_ask = record { flight = 1; number = 2; wish = Wishes.End }
 
 abbrev pub end_opened : Entry
-end_opened = Enters.Opened 2 now end_ask
+end_opened = Enters.Opened (record { job = 2; moment = now; ask = end_ask })
 
 abbrev pub ending_book : List Entry
 ending_book = held_book ++ end_opened ∷ []
@@ -214,14 +214,14 @@ abbrev pub end_replied : DssAsk → DssReply → Event
 end_replied call reply = Comes.Dss (record { job = 2; ask = call }) reply
 
 abbrev pub end_done : Entry
-end_done = Enters.Done 2 (Ends.Ended [])
+end_done = Enters.Done (record { job = 2; end = Ends.Ended [] })
 
--- the same record, of which another supplier is to be told
+-- the same record, of which another supplier is to be notified
 abbrev pub subscriber : Subscriber
 subscriber = record { base = codes "http://uss2.test"; ticket = ticket_number 2 1; index = 1 }
 
 abbrev pub owing : Entry
-owing = Enters.Held 1 1 ovn 1 (subscriber ∷ [])
+owing = Enters.Held (record { job = 1; tag = 1; ovn = ovn; version = 1; owed = subscriber ∷ [] })
 
 abbrev pub owing_book : List Entry
 owing_book = tried_book ++ owing ∷ []
@@ -233,7 +233,7 @@ abbrev pub notify : PeerCall
 notify = Calls.Notify 1 0 (codes "http://uss2.test") note
 
 abbrev pub notified : Entry
-notified = Enters.Sent 1 0
+notified = Enters.Sent (record { job = 1; index = 0 })
 
 -- another supplier tells of its flight, and that it has ended
 abbrev pub note_of_other : Note

@@ -1,6 +1,6 @@
 //! What one step of a supplier may do: what it may enter, send and say. Definitions and laws, and no code that runs.
 //!
-//! `specs/Heard.antt` has what a supplier heard and which pairs it keeps of it, `specs/Kept.antt` what holds of these,
+//! `specs/Heard.antt` of `uss_event` has what a supplier heard and which pairs it keeps of it, `specs/Kept.antt` what holds of these,
 //! `specs/Answers.antt` the answers that a book keeps, `specs/Sends.antt`, `specs/Entered.antt` and `specs/Sayings.antt` what may be
 //! sent, entered and said, and `specs/Duties.antt` the whole of a step. `specs/Worked.antt` has a worked job, and `specs/Flown.antt` a
 //! flight that is changed. The functions below do nothing: their contracts carry the laws.
@@ -71,10 +71,10 @@ pub fn a_position_may_be_judged()
     ensures old { MayStep held_book [] now (Comes.Position inside) None [] (Says.Refused (Refuses.OldPosition under_way)) [] }
 {}
 
-/// A supplier may tell another what it owes it, and enter that it was told; and it may hear of another's flight and of its end.
-pub fn changes_may_be_told()
+/// A supplier may send another a notification that it owes, and enter that it was sent; and it may hear of another's flight and of its end.
+pub fn changes_may_be_notified()
     ensures tells { MayStep owing_book [] now (Comes.Sweep 0) None (Goes.Peer notify ∷ []) Says.Nothing [] }
-    ensures told { MayStep owing_book [] now (Comes.Peer notify Peers.Noted) (Some notified) [] Says.Nothing [] }
+    ensures notifying { MayStep owing_book [] now (Comes.Peer notify Peers.Noted) (Some notified) [] Says.Nothing [] }
     ensures hears { MayStep tried_book [] now (Comes.Notified (codes "uss2") note_of_other) None [] Says.Noted (Heard other_pair ∷ []) }
     ensures forgets { MayStep tried_book (Heard other_pair ∷ []) now (Comes.Notified (codes "uss2") note_of_end) None [] Says.Noted (Heard other_pair ∷ Forgotten other_pair.reference.flight ∷ []) }
 {}
@@ -131,7 +131,7 @@ pub fn what_is_heard_is_kept()
 {}
 
 /// The books of the worked steps are legal, from the owner's entry on: a flight that is planned and then ended, a request that is
-/// cancelled, an attempt with a key, a record of which another supplier was told, a flight that is flown and strays or stays, and a ticket
+/// cancelled, an attempt with a key, a record of which another supplier was notified, a flight that is flown and strays or stays, and a ticket
 /// that is gone.
 pub fn the_worked_books_are_legal()
     ensures ended { IsLegal (ending_book ++ end_done ∷ []) }

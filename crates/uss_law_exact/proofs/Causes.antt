@@ -38,8 +38,9 @@ use Rattle.uss_event.specs.declared.events.Event.TheVariants as Comes
 use Rattle.uss_law_dss.specs.Lists.{Has}
 use Rattle.uss_law_dss.specs.Fits.{fits}
 use Rattle.uss_law_dss.proofs.Tests.{same_number, some_same, both}
-use Rattle.uss_law_book.specs.Lists.{Opening, openings}
-use Rattle.uss_law_book.specs.Readings.{opening_of, is_closed, is_open, decision_of, last_of, open_job_of, owed_of}
+use Rattle.uss_event.specs.declared.entries.Opening.{Opening}
+use Rattle.uss_law_book.specs.Lists.{openings}
+use Rattle.uss_law_book.specs.Contents.{opening_of, is_closed, is_open, decision_of, last_of, open_job_of, owed_of}
 use Rattle.uss_law_book.specs.Attempts.{held}
 use Rattle.uss_law_book.proofs.Kept.{opening_has}
 use Rattle.uss_event.specs.Heard.{News}
@@ -48,7 +49,7 @@ use Rattle.uss_law_duty.specs.Sends.{ticket_remove}
 use Rattle.uss_law_supplier.specs.declared.duties.Awaited.{Awaited}
 use Rattle.uss_law_supplier.specs.declared.duties.Awaited.TheVariants as Waits
 use Rattle.uss_law_supplier.specs.declared.duties.Chore.{Chore}
-use Rattle.uss_law_supplier.specs.declared.duties.Chore.TheVariants.{Tell, Retire}
+use Rattle.uss_law_supplier.specs.declared.duties.Chore.TheVariants.{Notify, Retire}
 use Rattle.uss_law_supplier.specs.declared.duties.Heard.TheVariants as Hears
 use Rattle.uss_law_supplier.specs.Monitor.{Sighting, later_position}
 use Rattle.uss_law_supplier.specs.Values.{Values, progress_of, awaited_of, counting, hearing, sightings_of}
@@ -61,7 +62,7 @@ use Rattle.uss_law_supplier.specs.Asks.{refusing, new_refusal, opening_entry, op
 use Rattle.uss_law_supplier.specs.Cancels.{cancelled_open, cancelled_job, cancelled_after, cancelled}
 use Rattle.uss_law_supplier.specs.Positions.{is_refused, counted_unless, counted_with, sighting_of, found_with, wished, acting_as, judged_as, judged, judged_unless, is_numbered, positioned_for, positioned_with, positioned}
 use Rattle.uss_law_supplier.specs.Chores.{chores, notify, notify_of, chore_call, swept}
-use Rattle.uss_law_supplier.specs.Replies.{closed_by_dss, closed_by_peer, retires, is_told_now, waits_for_dss, waits_for_peer, of_job_by_dss, of_job_by_peer, replied_to, replied, replied_to_peer, heard_by, hearing_it, replied_by_peer}
+use Rattle.uss_law_supplier.specs.Replies.{closed_by_dss, closed_by_peer, retires, is_sent_now, waits_for_dss, waits_for_peer, of_job_by_dss, of_job_by_peer, replied_to, replied, replied_to_peer, heard_by, hearing_it, replied_by_peer}
 use Rattle.uss_law_supplier.specs.Step.{is_of_another, notified_by, stepped}
 use Rattle.uss_law_supplier.proofs.Choosing.{has_picked}
 use Rattle.uss_law_supplier.proofs.Peering.{fit_hearing}
@@ -143,7 +144,7 @@ awaited_peer call (Some (Goes.Peer c)) h = (c, refl)
 
 peer_kind : {P : Type 0} (c : PeerCall) → kind_of_call c ≡ Some Waits.Get → P
 peer_kind (Calls.Details job flight manager base) e = let k : Waits.Details ≡ Waits.Get = some_same Waits.Details Waits.Get e in cc
-peer_kind (Calls.Notify job place base note) e = cc
+peer_kind (Calls.Notify job index base note) e = cc
 
 -- what is waited for is the same where something else is kept
 
@@ -165,7 +166,7 @@ round_peer_leaves s o (Calls.Details job flight manager base) Peers.Gone i = rou
 round_peer_leaves s o (Calls.Details job flight manager base) (Peers.Served pair) i = refl
 round_peer_leaves s o (Calls.Details job flight manager base) Peers.Noted i = refl
 round_peer_leaves s o (Calls.Details job flight manager base) (Peers.Status status) i = refl
-round_peer_leaves s o (Calls.Notify job place base note) reply i = refl
+round_peer_leaves s o (Calls.Notify job index base note) reply i = refl
 
 view_awaits : (s : Standing) (o : Opening) → (view_of s o).awaited ≡ option_and_then kind_of (awaited_of o.job s.values)
 unfolding view_of
@@ -280,7 +281,7 @@ module _ (s : Standing) (fit : IsFit s.owner s.book s.values) where
         open_job false e = gets_resuming C s o fit
 
         by_job : (b : Bool) → IsGets s.values C (of_job_by_peer s o call reply b)
-        by_job true = closed (is_told_now s o call reply)
+        by_job true = closed (is_sent_now s o call reply)
         by_job false = open_job (peer_fits call reply && waits_for_peer s o call) refl
 
     -- by a request
@@ -375,15 +376,15 @@ module _ (s : Standing) (fit : IsFit s.owner s.book s.values) where
 
     -- by a sweep
     chore_is : (chore : Chore) (call : DssCall) → chore_call s.owner s.book chore ≡ Some (Goes.Dss call) → IsGet call.ask → ⊥
-    chore_is (Tell job place) call e g = at_job (opening_of job s.book) e
+    chore_is (Notify job index) call e g = at_job (opening_of job s.book) e
       where
-        at_place : (o : Opening) (x : Option Subscriber) → option_map (notify s.owner s.book place o) x ≡ Some (Goes.Dss call) → ⊥
+        at_place : (o : Opening) (x : Option Subscriber) → option_map (notify s.owner s.book index o) x ≡ Some (Goes.Dss call) → ⊥
         at_place o None e = cc
-        at_place o (Some b) e = let q : notify s.owner s.book place o b ≡ Goes.Dss call = some_same (notify s.owner s.book place o b) (Goes.Dss call) e in cc
+        at_place o (Some b) e = let q : notify s.owner s.book index o b ≡ Goes.Dss call = some_same (notify s.owner s.book index o b) (Goes.Dss call) e in cc
 
-        at_job : (x : Option Opening) → option_and_then (notify_of s.owner s.book place) x ≡ Some (Goes.Dss call) → ⊥
+        at_job : (x : Option Opening) → option_and_then (notify_of s.owner s.book index) x ≡ Some (Goes.Dss call) → ⊥
         at_job None e = cc
-        at_job (Some o) e = at_place o (slice_get (owed_of o.job s.book) place) e
+        at_job (Some o) e = at_place o (slice_get (owed_of o.job s.book) index) e
     chore_is (Retire job) call e g =
         let q = same_dss (record { job = job; ask = ticket_remove s.owner job }) call (some_same _ (Goes.Dss call) e) in
         let k : Some Waits.TicketRemove ≡ Some Waits.Get = ap (λ (c : DssCall). kind_of_ask c.ask) q ∙ g in

@@ -30,8 +30,10 @@ use Rattle.uss_event.specs.declared.events.Event.TheVariants as Comes
 use Rattle.uss_plan.specs.declared.choice.Choice.{Choice}
 use Rattle.uss_plan.specs.declared.choice.Choice.TheVariants.{Chosen, Blocked}
 use Rattle.uss_law_dss.specs.Fits.{fits}
-use Rattle.uss_law_book.specs.Lists.{Opening, Trial, Closing}
-use Rattle.uss_law_book.specs.Readings.{opening_of, is_closed, decision_of, last_of, open_job_of, trials_of}
+use Rattle.uss_event.specs.declared.entries.Opening.{Opening}
+use Rattle.uss_event.specs.declared.entries.Trial.{Trial}
+use Rattle.uss_event.specs.declared.entries.Closing.{Closing}
+use Rattle.uss_law_book.specs.Contents.{opening_of, is_closed, decision_of, last_of, open_job_of, trials_of}
 use Rattle.uss_law_book.specs.Attempts.{held}
 use Rattle.uss_law_duty.specs.Answers.{job_of_call}
 use Rattle.uss_law_duty.specs.Entered.{shown_tag}
@@ -49,13 +51,13 @@ use Rattle.uss_law_supplier.specs.Jobs.{view_of, is_end, owed_by, reference_by, 
 use Rattle.uss_law_supplier.specs.Asks.{refusing, new_refusal, new_by, asked_for, repeated_by, asked_after, asked_with, plan_refusal, asked}
 use Rattle.uss_law_supplier.specs.Cancels.{cancelled_open, cancelled_job, cancelled_after, cancelled}
 use Rattle.uss_law_supplier.specs.Positions.{sighting_of, found_with, wished, acting_as, judged, judged_unless, is_numbered, positioned_for, positioned_with, positioned}
-use Rattle.uss_law_supplier.specs.Replies.{closed_by_dss, closed_by_peer, retires, is_told_now, waits_for_dss, waits_for_peer, of_job_by_dss, of_job_by_peer, replied_to, replied, replied_to_peer, hearing_it}
+use Rattle.uss_law_supplier.specs.Replies.{closed_by_dss, closed_by_peer, retires, is_sent_now, waits_for_dss, waits_for_peer, of_job_by_dss, of_job_by_peer, replied_to, replied, replied_to_peer, hearing_it}
 use Rattle.uss_law_supplier.specs.Step.{is_of_another, notified_by, stepped}
 use Rattle.uss_law_exact.specs.Requests.{ActsAs}
 
 -- a job that an entry opens is such
 abbrev pub Opens : (ℤ → FlightAsk → Type 0) → Option Entry → Type 0
-Opens P (Some (Enters.Opened job moment ask)) = P moment ask
+Opens P (Some (Enters.Opened o)) = P o.moment o.ask
 Opens P _ = Unit {0}
 
 -- what a job does opens none
@@ -187,7 +189,7 @@ module _ (P : ℤ → FlightAsk → Type 0) where
       opened o false = resumes s o
 
       of_job : (o : Opening) (b : Bool) → Opens P (of_job_by_peer s o call reply b).entry
-      of_job o true = closed o (is_told_now s o call reply)
+      of_job o true = closed o (is_sent_now s o call reply)
       of_job o false = opened o (peer_fits call reply && waits_for_peer s o call)
 
       go : (x : Option Opening) → Opens P (replied_to_peer s call reply x).entry

@@ -32,7 +32,7 @@ standing_of e x s = record { owner = x.owner; book = x.book; values = e.kept s }
 
 module _ (s job : ℕ) (moment : ℤ) (ask : FlightAsk) where
   abbrev opened : Entry
-  opened = Enters.Opened job moment ask
+  opened = Enters.Opened (record { job = job; moment = moment; ask = ask })
 
   abbrev IsIn : World → Type 0
   IsIn w = Has (book_of s w) opened
@@ -99,7 +99,7 @@ module _ (s job : ℕ) (moment : ℤ) (ask : FlightAsk) where
   -- a message asks nothing
   event_asks : (z : Standing) (at : ℤ) (client : List ℕ) (call : PeerCall) → IsAskedBy z at (event_by client call) ask → ⊥
   event_asks z at client (Calls.Details k flight manager base) h = h
-  event_asks z at client (Calls.Notify k place base note) h = h
+  event_asks z at client (Calls.Notify k index base note) h = h
 
   abbrev AsksNothing : Arrival → Type 0
   AsksNothing a = (z : Standing) (at : ℤ) → IsAskedBy z at a.event ask → ⊥

@@ -28,8 +28,10 @@ use Rattle.uss_law_dss.specs.Effects.Effect.{lands, removes, makes_ticket, takes
 use Rattle.uss_law_dss.proofs.Lists.{has_append, has_left, has_map, has_push, any_true}
 use Rattle.uss_law_dss.proofs.Tests.{same_number, equal_number, other_number, not_both, and_true}
 use Rattle.uss_law_dss.proofs.EachEffect.{effect}
-use Rattle.uss_law_book.specs.Lists.{Opening, Trial, openings, trials}
-use Rattle.uss_law_book.specs.Readings.{opening_of, is_closed, is_open, owns}
+use Rattle.uss_event.specs.declared.entries.Opening.{Opening}
+use Rattle.uss_event.specs.declared.entries.Trial.{Trial}
+use Rattle.uss_law_book.specs.Lists.{openings, trials}
+use Rattle.uss_law_book.specs.Contents.{opening_of, is_closed, is_open, owns}
 use Rattle.uss_law_book.proofs.Entries.{opening_stays, trial_stays, closed_by_either}
 use Rattle.uss_law_book.proofs.Kept.{opening_has, open_parts}
 use Rattle.uss_law_book.proofs.Held.{opening_is_found}

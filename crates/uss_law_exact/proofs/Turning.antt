@@ -57,7 +57,7 @@ pair_typed owner book v i p h = held_pair_coded (record { owner = owner; book = 
 
 note_typed : (owner : Owner) (book : List Entry) (v : Values) → IsSound owner book v → (call : PeerCall) → NotesAreHeld book call → IsNoted call
 note_typed owner book v i (Calls.Details job flight manager base) h = tt
-note_typed owner book v i (Calls.Notify job place base note) h = go note.pair h
+note_typed owner book v i (Calls.Notify job index base note) h = go note.pair h
   where
     go : (x : Option OperationalIntent) → IfSome x (IsHeldPair book) → IfSome x IsIntent
     go None h = tt

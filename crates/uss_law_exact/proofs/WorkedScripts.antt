@@ -14,7 +14,7 @@ use Rattle.uss_law_world.specs.Suppliers.{numbered_owners}
 use Rattle.uss_law_world.specs.Worked.{found_again, cancelled_early, second, both_put}
 use Rattle.uss_law_world.specs.WorkedEnds.{watched, ended}
 use Rattle.uss_law_world.specs.WorkedStops.{failed, stopped_twice, answered_twice}
-use Rattle.uss_law_world.specs.WorkedSweeps.{told}
+use Rattle.uss_law_world.specs.WorkedSweeps.{notifying}
 use Rattle.uss_law_world.specs.Contested.{given_up}
 use Rattle.uss_law_world.proofs.Product.{numbered_are_suppliers}
 use Rattle.uss_law_exact.specs.Exact.{script_of, AreTyped}
@@ -134,8 +134,8 @@ both_put_is_typed = (tt, (asked, (asked, (tt, (tt, (tt, (tt, (tt, (tt, (tt, (tt,
 pub given_up_is_typed : AreTyped (script_of given_up)
 given_up_is_typed = (tt, (asked, (asked, (tt, (tt, (tt, (tt, (tt, (tt, (tt, (tt, (tt, (tt, (tt, (tt, (tt, (tt, (tt, (tt, (tt, (tt, tt)))))))))))))))))))))
 
-pub told_is_typed : AreTyped (script_of told)
-told_is_typed = (tt, (asked, (tt, (asked, (tt, (tt, (tt, (tt, (tt, (tt, (tt, (tt, (tt, (tt, tt))))))))))))))
+pub notifying_is_typed : AreTyped (script_of notifying)
+notifying_is_typed = (tt, (asked, (tt, (asked, (tt, (tt, (tt, (tt, (tt, (tt, (tt, (tt, (tt, (tt, tt))))))))))))))
 
 pub both_asked_is_typed : AreTyped both_asked
 both_asked_is_typed = (tt, (asked, (later_asked, (tt, (tt, tt)))))

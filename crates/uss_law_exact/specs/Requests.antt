@@ -50,10 +50,10 @@ pub record ComesOfRequest (first : Exact) (steps : List Step) (s job : ℕ) (mom
   pub asks : Asks (exact_run first before) s ask step
   pub moment_is : moment ≡ clamped (exact_run first before).world.moment
   pub enters : book_of s (exact_step (exact_run first before) step).world ≡
-      book_of s (exact_run first before).world ++ Enters.Opened job moment ask ∷ []
+      book_of s (exact_run first before).world ++ Enters.Opened (record { job = job; moment = moment; ask = ask }) ∷ []
 
 abbrev pub EachJobComesOfRequest : Type 0
 EachJobComesOfRequest =
     (owners : List Owner) (steps : List Step) (s job : ℕ) (moment : ℤ) (ask : FlightAsk) →
-    Has (book_of s (exact_run (exact_start owners) steps).world) (Enters.Opened job moment ask) →
+    Has (book_of s (exact_run (exact_start owners) steps).world) (Enters.Opened (record { job = job; moment = moment; ask = ask })) →
     ComesOfRequest (exact_start owners) steps s job moment ask

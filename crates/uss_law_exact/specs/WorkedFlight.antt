@@ -61,8 +61,8 @@ whole_life_sayings =
 abbrev pub whole_life_book : List Entry
 whole_life_book =
     nonconforming_book
-    ++ Enters.Opened 4 two_minutes_later ended_ask
-    ∷ Enters.Done 4 (Ended [])
+    ++ Enters.Opened (record { job = 4; moment = two_minutes_later; ask = ended_ask })
+    ∷ Enters.Done (record { job = 4; end = Ended [] })
     ∷ Enters.TicketGone 1
     ∷ Enters.TicketGone 2
     ∷ Enters.TicketGone 3

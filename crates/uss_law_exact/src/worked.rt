@@ -8,7 +8,7 @@ ghost use Rattle.uss_law_world.specs.Free.{AreSuppliers};
 ghost use Rattle.uss_law_world.specs.Worked.{said_in, found_again, cancelled_early, second, both_put};
 ghost use Rattle.uss_law_world.specs.WorkedEnds.{watched, ended};
 ghost use Rattle.uss_law_world.specs.WorkedStops.{failed, stopped_twice, answered_twice};
-ghost use Rattle.uss_law_world.specs.WorkedSweeps.{told};
+ghost use Rattle.uss_law_world.specs.WorkedSweeps.{notifying};
 ghost use Rattle.uss_law_world.specs.Contested.{given_up, given_up_sayings};
 ghost use Rattle.uss_law_exact.specs.Exact.{script_of, AreTyped};
 ghost use Rattle.uss_law_exact.specs.Worked.{IsExact, both_asked, both_asked_world, both_asked_posts, both_asked_records, both_asked_landings};
@@ -34,11 +34,11 @@ pub fn failed_calls_and_stops_are_exact()
     ensures answered_twice { IsExact (owner ∷ []) answered_twice }
 {}
 
-/// Two suppliers put at once; the second gives up; a sweep of the first tells the second.
+/// Two suppliers put at once; the second gives up; a sweep of the first notifies the second.
 pub fn runs_of_two_are_exact()
     ensures both_put { IsExact (owner ∷ second ∷ []) both_put }
     ensures given_up { IsExact (owner ∷ second ∷ []) given_up }
-    ensures told { IsExact (owner ∷ second ∷ []) told }
+    ensures notifying { IsExact (owner ∷ second ∷ []) notifying }
 {}
 
 /// A whole run of two suppliers by a script that drains: its messages, sayings, and what is recorded in the end.
@@ -71,7 +71,7 @@ pub fn worked_scripts_are_typed()
     ensures answered_twice { AreTyped (script_of answered_twice) }
     ensures both_put { AreTyped (script_of both_put) }
     ensures given_up { AreTyped (script_of given_up) }
-    ensures told { AreTyped (script_of told) }
+    ensures notifying { AreTyped (script_of notifying) }
     ensures both_asked { AreTyped both_asked }
     ensures whole_life { AreTyped whole_life }
 {}

@@ -1,4 +1,4 @@
--- What comes behind the chunks read so far is of one kind.
+-- What comes after the chunks read so far is of one kind.
 use Rattle.std.proofs.Common.{◌≡◌, ℕ, ◌+◌, ◌-◌, ◌<◌, ◌≤◌, List, [], ◌∷◌, ◌++◌, length, take, All, refl, sym, ap, ◌∙◌, subst, arith, inl, inr, take_all, append-nil, length-append}
 use Rattle.std.proofs.Math.Seq.{take-append-add}
 use Rattle.std.proofs.lemmas.List.Elements.{All-head, All-tail}
@@ -65,7 +65,7 @@ l_kind n b (l_long a c) = malformed
 l_kind n b (l_short a c) = cut
 l_kind n b (l_has l r h s) = s_kind n (chunk_size l) r s
 
--- of a text of at most 16 KiB at the front, the first 16 KiB begin with it too
+-- of a text of at most 16 KiB at the start, the first 16 KiB begin with it too
 front_of : (b text rest : List ℕ) → b ≡ text ++ rest → length text ≤ piece_limit → (more : List ℕ) × (take piece_limit b ≡ text ++ more)
 front_of b text rest is within =
     let n : piece_limit ≡ length text + (piece_limit - length text) = omega arith in
@@ -107,7 +107,7 @@ one_trailing r (t_has f e w are is) (t_long a b) = absurd (t_long_has r f e w b 
 one_trailing r (t_has f e w are is) (t_short a b) = absurd (b.none f e w (are.valid, is))
 one_trailing r (t_has f e w are is) (t_has g h v be at) = refl
 
--- ---- the CR LF behind a chunk
+-- ---- the CR LF after a chunk
 
 e_never_open : (q : List ℕ) → NeverHasLineEnd q → IsOpenLineEnd q → ⊥
 e_never_open q never (inl none) = never crlf_bytes ([], ap (λ (l : List ℕ). l ++ crlf_bytes) none)
@@ -191,7 +191,7 @@ chunk_line : (n : ℕ) (c : Chunk) (rest r : List ℕ) → IsChunk c → n + len
 chunk_line n c rest r is within spelled =
     (l_has c.line (c.bytes ++ (crlf_bytes ++ rest)) (record { line_is = is.line; spelled = spelled }) (s_some is.some (omega (arith, is.size)) (d_end c.bytes (crlf_bytes ++ rest) is.size refl (e_has (rest, refl)))), refl)
 
--- behind the chunks of the same bytes the same comes
+-- after the chunks of the same bytes the same comes
 one_end : (n m k : ℕ) (cs ds : List Chunk) (r q : List ℕ) → m ≡ n + length (body_of cs) → k ≡ n + length (body_of ds) → m ≤ body_limit → k ≤ body_limit → All IsChunk cs → All IsChunk ds → chunks_text cs ++ r ≡ chunks_text ds ++ q → (x : Line m r) (y : Line k q) → (l_kind m r x ≡ next → ⊥) → (l_kind k q y ≡ next → ⊥) → l_kind m r x ≡ l_kind k q y
 one_end n m k [] [] r q is_m is_k low high all every e x y not_x not_y =
     let same : m ≡ k = is_m ∙ sym is_k in
@@ -216,7 +216,7 @@ one_end n m k (c ∷ cs) (d ∷ ds) r q is_m is_k low high all every e x y not_x
 
 -- ---- what stops, and what ends, is of its kind
 
--- the bytes begin with chunks, and behind them comes something of this kind
+-- the bytes begin with chunks, and after them comes something of this kind
 pub record ComesTo (bytes : List ℕ) (kind : Kind) : Type 0 where
   pub chunks : List Chunk
   pub rest : List ℕ

@@ -41,7 +41,7 @@ one_head bytes h k r q x y =
     let t = one_tree bytes x.tree y.tree r q x.begins y.begins in
     (one_says x.tree.method x.tree.target (map name_and_value x.tree.fields) h k x.says (subst (λ (tree : RequestHead). IsHeadWith tree.method tree.target (map name_and_value tree.fields) k) (sym t.0) y.says), t.1)
 
--- the head is at the front of the first 16 KiB too
+-- the head is at the start of the first 16 KiB too
 reads_front : (bytes rest : List ℕ) (h : RequestHead) → BeginsWith bytes h rest → (more : List ℕ) × ReadsRequest (take piece_limit bytes) h more
 reads_front bytes rest h x =
     let text = print_request h in
@@ -81,7 +81,7 @@ same_front (x ∷ xs) (y ∷ ys) us vs n e =
     let h = same_front xs ys us vs (omega arith) tail in
     ((λ i. head i ∷ h.0 i), h.1)
 
--- the line at the front, and what follows it
+-- the line at the start, and what follows it
 pub lines : (l m : ChunkLine) (r q : List ℕ) → IsChunkLine l → IsChunkLine m → print_chunk_line l ++ r ≡ print_chunk_line m ++ q → (l ≡ m) × (r ≡ q)
 lines l m r q x y e = chunk_line_unique (print_chunk_line l ++ r) l m r q (x, refl) (y, e)
 

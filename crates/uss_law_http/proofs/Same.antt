@@ -58,7 +58,7 @@ one_body_reason Chunked bytes refusal.BadChunk refusal.Memory x y = absurd y
 one_body_reason Chunked bytes refusal.Fault e x y = absurd x
 one_body_reason Chunked bytes refusal.Memory e x y = absurd x
 
--- what is said of the body behind one head is said of it behind the other
+-- what is said of the body after one head is said of it after the other
 moved : (bytes : List ℕ) (h k : Head) (r q : List ℕ) (e : ReadRefusal) → (h ≡ k) × (r ≡ q) → IsRefusedBody k.framing q e → IsRefusedBody h.framing r e
 moved bytes h k r q e same x =
     let there : IsRefusedBody h.framing q e = subst (λ (head : Head). IsRefusedBody head.framing q e) (sym same.0) x in

@@ -28,7 +28,7 @@ skipped : (test : ℕ → Bool) → ((b : ℕ) → IsTrue (test b) → is_ows b 
 skipped test none [] all = refl
 skipped test none (b ∷ v) all = cond-false (is_ows b) (skip_ows v) (b ∷ v) (none b (All-head (Passes test) b v all))
 
--- such a value comes back from behind a space as it is
+-- such a value comes back from after a space as it is
 trimmed : (test : ℕ → Bool) → ((b : ℕ) → IsTrue (test b) → is_ows b ≡ false) → (v : List ℕ) → AllPass test v → trim_ows (32 ∷ v) ≡ v
 trimmed test none v all = trim_ows_space v (skipped test none v all) (skipped test none (reverse v) (AllPass-reverse test v all))
 
@@ -130,7 +130,7 @@ grouped a c s e x = simp append_assoc
 front_of : (n v s e x : List ℕ) → n ++ 58 ∷ 32 ∷ v ++ crlf_bytes ++ s ++ e ++ x ≡ n ++ 58 ∷ 32 ∷ (v ++ 13 ∷ 10 ∷ (s ++ e ++ x))
 front_of n v s e x = grouped (n ++ 58 ∷ 32 ∷ v) crlf_bytes s e x ∙ append_assoc n (58 ∷ 32 ∷ v) (13 ∷ 10 ∷ (s ++ e ++ x))
 
--- the first field stands at the front of its section
+-- the first field stands at the start of its section
 pub section_more : (name value : List ℕ) (fields : List Field) (x : List ℕ) → print_section (field name value ∷ fields) crlf ++ x ≡ name ++ 58 ∷ 32 ∷ (value ++ 13 ∷ 10 ∷ (print_section fields crlf ++ x))
 section_more name value fields x = front_of name value (flat_map print_field fields) crlf_bytes x
 

@@ -30,7 +30,7 @@ pub record IsWritable (response : Response) : Type 0 where
   pub empty : response.status ≡ 204 → response.body ≡ []
   pub body : length response.body ≤ body_limit
 
--- the bytes decide the answer: it is neither a fault nor want of memory
+-- the bytes decide the answer: it is neither a fault nor out of memory
 abbrev pub IsDecided : {T : Type 0} → Result T HttpRefusal → Type 0
 IsDecided (Ok message) = Unit {0}
 IsDecided (Err refusal.HeadTooLarge) = Unit {0}

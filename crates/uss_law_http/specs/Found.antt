@@ -5,7 +5,7 @@ use Rattle.uss_http_response.specs.declared.response.Response.{Response}
 use Rattle.uss_http_request.specs.declared.refusal.ReadRefusal.{ReadRefusal}
 use Rattle.uss_http_request.specs.declared.refusal.ReadRefusal.TheVariants as refusal
 
--- the bytes alone decide it: it is neither a fault nor want of memory
+-- the bytes alone decide it: it is neither a fault nor out of memory
 abbrev pub IsByTheBytes : Result Request ReadRefusal → Type 0
 IsByTheBytes (Ok request) = Unit {0}
 IsByTheBytes (Err refusal.HeadTooLarge) = Unit {0}

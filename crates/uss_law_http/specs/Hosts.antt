@@ -11,7 +11,7 @@ pub record IsReadAs (base : List ℕ) (url : Parts) : Type 0 where
   pub is_base : IsBase base
   pub read : parse_url None base ≡ Ok url
 
--- the host, and behind a colon the port where it isn't that of the scheme, as `b.example:81`
+-- the host, and after a colon the port where it isn't that of the scheme, as `b.example:81`
 abbrev pub host_of : Parts → List ℕ
 host_of url = text_between url BeforeHost AfterPort
 

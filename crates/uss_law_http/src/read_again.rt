@@ -13,7 +13,7 @@ ghost use Rattle.uss_law_http.specs.Again.{IsReadable, IsHostFor, IsWritable, Is
 ghost use Rattle.uss_law_http.specs.Hosts.{IsReadAs, host_of, IsHost, HasHost};
 
 /// The bytes written of a request are read as that request, whatever follows them, where some bytes can be read as it and the
-/// head has room for the host; and but for a fault and want of memory no other answer is given. What is read of any bytes is
+/// head has room for the host; and but for a fault and out of memory no other answer is given. What is read of any bytes is
 /// such a request. The function does nothing: its contract carries the law.
 pub fn requests_are_read_again()
     ensures again { (host rest : List ℕ) (request : Request) → IsReadable request → IsHostFor request host → IsReadFrom (request_text host request ++ rest) (Ok request) }
@@ -38,7 +38,7 @@ pub fn hosts_of_bases_are_named()
     ensures named { (base host : List ℕ) → HasHost base host → IsHost host }
 {}
 
-/// Hosts that were worked out by hand: with a port, with that of the scheme, in capitals, behind a user and its password, and by an
+/// Hosts that were worked out by hand: with a port, with that of the scheme, in capitals, after a user and its password, and by an
 /// address of four bytes or in brackets.
 pub fn worked_hosts()
     ensures port { HasHost (codes "http://uss.example.com:8443/uss/v1") (codes "uss.example.com:8443") }

@@ -14,7 +14,7 @@ ghost use Rattle.uss_http_response.specs.Responses as response;
 ghost use Rattle.uss_law_http.specs.Again.{IsDecided};
 ghost use Rattle.uss_law_http.specs.Found.{IsByTheBytes, IsResponseByTheBytes};
 
-/// The same bytes have one answer: one request at their front, or one reason why there is none, and not both. The
+/// The same bytes have one answer: one request at their start, or one reason why there is none, and not both. The
 /// function does nothing: its contract carries the law.
 pub fn one_answer()
     ensures { (bytes : List ℕ) (a b : Result Request ReadRefusal) → IsByTheBytes a → IsByTheBytes b → IsAnswerOf bytes a → IsAnswerOf bytes b → a ≡ b }
@@ -34,13 +34,13 @@ pub fn one_body()
     ensures reasons { (framing : Framing) (bytes : List ℕ) (d e : ReadRefusal) → IsRefusedBody framing bytes d → IsRefusedBody framing bytes e → d ≡ e }
 {}
 
-/// The same bytes up to the end of a stream have one answer as a response: one response at their front, or one reason why
+/// The same bytes up to the end of a stream have one answer as a response: one response at their start, or one reason why
 /// there is none, and not both.
 pub fn one_response()
     ensures { (bytes : List ℕ) (a b : Result Response ReadRefusal) → IsResponseByTheBytes a → IsResponseByTheBytes b → response.IsAnswerOf bytes a → response.IsAnswerOf bytes b → a ≡ b }
 {}
 
-/// The same bytes have one answer of reading a request, and one of reading a response: the message at their front, or one
+/// The same bytes have one answer of reading a request, and one of reading a response: the message at their start, or one
 /// reason why there is none, and not both.
 pub fn one_answer_of_a_read()
     ensures requests { (bytes : List ℕ) (a b : Result Request HttpRefusal) → IsDecided a → IsDecided b → IsReadFrom bytes a → IsReadFrom bytes b → a ≡ b }

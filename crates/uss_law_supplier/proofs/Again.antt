@@ -3,8 +3,8 @@ use Rattle.std.proofs.Common.{arith, ℕ, ◌==◌, Bool, false, cond, nat_lt, �
 use Rattle.std.proofs.lemmas.Bool.Decides.{nat_tests}
 use Rattle.uss_event.specs.declared.asks.AskField.{AskField}
 use Rattle.uss_event.specs.declared.asks.AskRefusal.TheVariants as Refuses
-use Rattle.uss_law_book.specs.Lists.{Opening}
-use Rattle.uss_law_book.specs.Readings.{is_closed}
+use Rattle.uss_event.specs.declared.entries.Opening.{Opening}
+use Rattle.uss_law_book.specs.Contents.{is_closed}
 use Rattle.uss_law_dss.proofs.Tests.{equal_number}
 use Rattle.uss_law_duty.specs.Duties.{clamped}
 use Rattle.uss_law_supplier.specs.Turns.{Standing}

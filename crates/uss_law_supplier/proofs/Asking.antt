@@ -36,8 +36,12 @@ use Rattle.uss_event.specs.declared.events.Event.TheVariants as Comes
 use Rattle.uss_law_dss.specs.Lists.{Has}
 use Rattle.uss_law_dss.proofs.Lists.{find_has, has_filter, has_passed, none_passes, has_last}
 use Rattle.uss_law_dss.proofs.Tests.{same_number, equal_number, unequal_number, other_number, not_less, both, and_true, not_both, none_is, some_same, left_false, neither}
-use Rattle.uss_law_book.specs.Lists.{Opening, Trial, Holding, Closing, openings, trials, holdings, endings}
-use Rattle.uss_law_book.specs.Readings.{is_held, is_done, is_closed, decision_of, trials_of, jobs_of, open_job_of, greater, greatest, last_of, has_ended, is_ticket_open}
+use Rattle.uss_event.specs.declared.entries.Opening.{Opening}
+use Rattle.uss_event.specs.declared.entries.Trial.{Trial}
+use Rattle.uss_event.specs.declared.entries.Holding.{Holding}
+use Rattle.uss_event.specs.declared.entries.Closing.{Closing}
+use Rattle.uss_law_book.specs.Lists.{openings, trials, holdings, endings}
+use Rattle.uss_law_book.specs.Contents.{is_held, is_done, is_closed, decision_of, trials_of, jobs_of, open_job_of, greater, greatest, last_of, has_ended, is_ticket_open}
 use Rattle.uss_law_book.specs.Attempts.{held_state}
 use Rattle.uss_law_book.specs.Legal.{ArePlans, MayWish, IsAfter, IsDue}
 use Rattle.uss_law_book.specs.Orderly.{IsOrderly}
@@ -132,14 +136,14 @@ parts_none (Some x) xs h = cc
 never_memory : (r : Option DetailsRefusal) → option_and_then number_of r ≡ None → (r ≡ Some Details.Memory → ⊥) → is_none r ≡ true
 never_memory None h n = refl
 never_memory (Some Details.TooManyVolumes) h n = cc
-never_memory (Some Details.TooManyVertices) h n = cc
+never_memory (Some Details.TooManyVerticesTogether) h n = cc
 never_memory (Some Details.OffNominalNotAllowed) h n = cc
 never_memory (Some Details.NoVolume) h n = cc
 never_memory (Some Details.PriorityRange) h n = cc
 never_memory (Some Details.Memory) h n = absurd (n refl)
 
--- a plan isn't refused for want of memory
-no_memory : (a b c d e : Bool) → cond a (Some Details.TooManyVolumes) (cond b (Some Details.TooManyVertices) (cond c (Some Details.OffNominalNotAllowed) (cond d (Some Details.NoVolume) (cond e (Some Details.PriorityRange) None)))) ≡ Some Details.Memory → ⊥
+-- a plan isn't refused as out of memory
+no_memory : (a b c d e : Bool) → cond a (Some Details.TooManyVolumes) (cond b (Some Details.TooManyVerticesTogether) (cond c (Some Details.OffNominalNotAllowed) (cond d (Some Details.NoVolume) (cond e (Some Details.PriorityRange) None)))) ≡ Some Details.Memory → ⊥
 no_memory true b c d e h = cc
 no_memory false true c d e h = cc
 no_memory false false true d e h = cc
@@ -242,21 +246,21 @@ new_undecided book job s k n = go (decision_of job book) refl
     go (Some d) e = not_both (is_ticket_open job book) (decided_ticketed job book k (rw e refl)) (new_unticketed book job s k n)
 
 -- the entry leaves that so
-pub opened_leaves_open : (job : ℕ) (moment : ℤ) (ask : FlightAsk) → is_closed job (Enters.Opened job moment ask ∷ []) ≡ false
+pub opened_leaves_open : (job : ℕ) (moment : ℤ) (ask : FlightAsk) → is_closed job (Enters.Opened (record { job = job; moment = moment; ask = ask }) ∷ []) ≡ false
 unfolding is_held is_done
 opened_leaves_open job moment ask = refl
 
-pub same_trials : (job : ℕ) (book : List Entry) (moment : ℤ) (ask : FlightAsk) → trials_of job (book ++ Enters.Opened job moment ask ∷ []) ≡ trials_of job book
+pub same_trials : (job : ℕ) (book : List Entry) (moment : ℤ) (ask : FlightAsk) → trials_of job (book ++ Enters.Opened (record { job = job; moment = moment; ask = ask }) ∷ []) ≡ trials_of job book
 unfolding trials_of
-same_trials job book moment ask = trials_either job book (Enters.Opened job moment ask ∷ []) ∙ append-nil (trials_of job book)
+same_trials job book moment ask = trials_either job book (Enters.Opened (record { job = job; moment = moment; ask = ask }) ∷ []) ∙ append-nil (trials_of job book)
 
 or_nothing : (b : Bool) → (b || false) ≡ b
 or_nothing true = refl
 or_nothing false = refl
 
-pub same_ticket : (job : ℕ) (book : List Entry) (moment : ℤ) (ask : FlightAsk) → is_ticket_open job (book ++ Enters.Opened job moment ask ∷ []) ≡ is_ticket_open job book
+pub same_ticket : (job : ℕ) (book : List Entry) (moment : ℤ) (ask : FlightAsk) → is_ticket_open job (book ++ Enters.Opened (record { job = job; moment = moment; ask = ask }) ∷ []) ≡ is_ticket_open job book
 unfolding is_ticket_open
-same_ticket job book moment ask = ticket_either job book (Enters.Opened job moment ask ∷ []) ∙ or_nothing (is_ticket_open job book)
+same_ticket job book moment ask = ticket_either job book (Enters.Opened (record { job = job; moment = moment; ask = ask }) ∷ []) ∙ or_nothing (is_ticket_open job book)
 
 -- by its book it ends its flight, or asks for its ticket
 abbrev pub first_kind : Bool → Awaited

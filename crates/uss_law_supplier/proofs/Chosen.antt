@@ -24,8 +24,10 @@ use Rattle.uss_plan.specs.Choice.{wanted, is_clear, verdict_on, is_free, choice}
 use Rattle.uss_law_dss.specs.Lists.{Has}
 use Rattle.uss_law_dss.proofs.Lists.{has_left, has_append}
 use Rattle.uss_law_dss.proofs.Tests.{equal_number, unequal_number, both, not_both, some_same}
-use Rattle.uss_law_book.specs.Lists.{Opening, Trial, trials}
-use Rattle.uss_law_book.specs.Readings.{opening_of, is_put, is_ended, trial_of, trials_of, decision_of, base_of, is_ticket_open, rounds_of}
+use Rattle.uss_event.specs.declared.entries.Opening.{Opening}
+use Rattle.uss_event.specs.declared.entries.Trial.{Trial}
+use Rattle.uss_law_book.specs.Lists.{trials}
+use Rattle.uss_law_book.specs.Contents.{opening_of, is_put, is_ended, trial_of, trials_of, decision_of, current_ovn_of, is_ticket_open, rounds_of}
 use Rattle.uss_law_book.specs.Attempts.{Attempted, attempted, by_wish, attempt_of, held}
 use Rattle.uss_intent.specs.Texts.{IsOvn}
 use Rattle.uss_intent.specs.States.{is_strategic}
@@ -94,18 +96,18 @@ none_old book d = none_found (λ (t : Trial). t.tag == (length (trials book) + 1
 -- the attempt that a new entry makes
 new_trial_found : (s : Standing) (o : Opening) (alternative : ℕ) (key : List (List ℕ)) → IsOrderly s.book
     → trial_of (length (trials s.book) + 1) (s.book ++ pending s o alternative key ∷ [])
-    ≡ Some (record { job = o.job; tag = length (trials s.book) + 1; alternative = alternative; previous = base_of o.ask.flight s.book; key = key })
+    ≡ Some (record { job = o.job; tag = length (trials s.book) + 1; alternative = alternative; previous = current_ovn_of o.ask.flight s.book; key = key })
 unfolding trial_of
 new_trial_found s o alternative key d =
     let tag = length (trials s.book) + 1 in
-    let t : Trial = record { job = o.job; tag = tag; alternative = alternative; previous = base_of o.ask.flight s.book; key = key } in
+    let t : Trial = record { job = o.job; tag = tag; alternative = alternative; previous = current_ovn_of o.ask.flight s.book; key = key } in
     ap (λ (l : List Trial). find (λ (t : Trial). t.tag == tag) l) (trials_append s.book (pending s o alternative key ∷ []))
     ∙ find-append (λ (t : Trial). t.tag == tag) (trials s.book) (t ∷ [])
     ∙ ap (λ x. option_or x (find (λ (t : Trial). t.tag == tag) (t ∷ []))) (none_old s.book d)
     ∙ rw (equal_number tag tag refl) refl
 
 abbrev new_trial : Standing → Opening → ℕ → List (List ℕ) → Trial
-new_trial s o alternative key = record { job = o.job; tag = length (trials s.book) + 1; alternative = alternative; previous = base_of o.ask.flight s.book; key = key }
+new_trial s o alternative key = record { job = o.job; tag = length (trials s.book) + 1; alternative = alternative; previous = current_ovn_of o.ask.flight s.book; key = key }
 
 -- it is the one of its job's wish
 by_wish_is : (owner : Owner) (o : Opening) (t : Trial) (wish : Wish) (a : Attempted) (to : State) (priority rounds : ℕ) (proposals : List Proposal) (proposal : Proposal) → wish ≡ Put to priority rounds proposals

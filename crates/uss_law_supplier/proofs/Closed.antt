@@ -23,8 +23,8 @@ use Rattle.uss_law_dss.specs.Lists.{Has}
 use Rattle.uss_law_dss.specs.Fits.{fits}
 use Rattle.uss_law_dss.proofs.Lists.{has_filter, has_passed, list_any_has}
 use Rattle.uss_law_dss.proofs.Tests.{same_number, both, not_both, not_true}
-use Rattle.uss_law_book.specs.Lists.{Opening}
-use Rattle.uss_law_book.specs.Readings.{opening_of, is_closed, puts, owed_of, is_told, untold, is_ticket_open, is_ticket_gone, is_ticket_needed, keeps_ticket}
+use Rattle.uss_event.specs.declared.entries.Opening.{Opening}
+use Rattle.uss_law_book.specs.Contents.{opening_of, is_closed, puts, owed_of, is_sent, unsent, is_ticket_open, is_ticket_gone, is_ticket_needed, keeps_ticket}
 use Rattle.uss_law_book.specs.Legal.{IsDue}
 use Rattle.uss_law_book.proofs.Kept.{opening_has}
 use Rattle.uss_event.specs.Heard.{News}
@@ -34,8 +34,8 @@ use Rattle.uss_law_duty.specs.Sends.{ticket_remove}
 use Rattle.uss_law_duty.specs.Entered.{IsTicketRemoved}
 use Rattle.uss_law_supplier.specs.Values.{awaited_of}
 use Rattle.uss_law_supplier.specs.Turns.{Standing, entering}
-use Rattle.uss_law_book.specs.Readings.{is_ticket_due}
-use Rattle.uss_law_supplier.specs.Replies.{is_retired, takes_out, retires, is_told_now, saying_nothing, closed_by_dss, closed_by_peer}
+use Rattle.uss_law_book.specs.Contents.{is_ticket_due}
+use Rattle.uss_law_supplier.specs.Replies.{is_retired, takes_out, retires, is_sent_now, saying_nothing, closed_by_dss, closed_by_peer}
 use Rattle.uss_law_supplier.specs.Fitting.{IsAwaited, IsFit}
 use Rattle.uss_law_book.proofs.Others.{is_of_job}
 use Rattle.uss_law_book.proofs.Known.{ticket_puts}
@@ -127,27 +127,27 @@ in_range a zero x h = absurd h
 in_range a (suc n) x (inl e) = omega (arith, e)
 in_range a (suc n) x (inr h) = let r = in_range (a + 1) n x h in omega (arith, r)
 
-pub untold_is : (job place : ℕ) (book : List Entry) → is_one_of place (untold job book) ≡ true → (place < length (owed_of job book)) × (is_told job place book ≡ false)
-unfolding untold
-untold_is job place book h =
-    let a = list_any_has (λ m. m == place) (untold job book) h in
-    let q : a.0 ≡ place = same_number a.0 place a.2 in
-    let f = has_filter (λ p. not (is_told job p book)) (range_with_len 0 (length (owed_of job book))) a.0 a.1 in
-    let g = has_passed (λ p. not (is_told job p book)) (range_with_len 0 (length (owed_of job book))) a.0 a.1 in
+pub unsent_is : (job index : ℕ) (book : List Entry) → is_one_of index (unsent job book) ≡ true → (index < length (owed_of job book)) × (is_sent job index book ≡ false)
+unfolding unsent
+unsent_is job index book h =
+    let a = list_any_has (λ m. m == index) (unsent job book) h in
+    let q : a.0 ≡ index = same_number a.0 index a.2 in
+    let f = has_filter (λ p. not (is_sent job p book)) (range_with_len 0 (length (owed_of job book))) a.0 a.1 in
+    let g = has_passed (λ p. not (is_sent job p book)) (range_with_len 0 (length (owed_of job book))) a.0 a.1 in
     let r = in_range 0 (length (owed_of job book)) a.0 f in
-    ((let b = r in omega (arith, b, q)), subst (λ p. is_told job p book ≡ false) q (not_true (is_told job a.0 book) g))
+    ((let b = r in omega (arith, b, q)), subst (λ p. is_sent job p book ≡ false) q (not_true (is_sent job a.0 book) g))
 
 pub good_closed_by_peer : (s : Standing) (heard : List News) (moment : ℤ) (o : Opening) (call : PeerCall) (reply : PeerReply) → Sound s → opening_of (job_of_call call) s.book ≡ Some o → is_closed o.job s.book ≡ true
-    → (b : Bool) → is_told_now s o call reply ≡ b → IsGood s heard moment (Comes.Peer call reply) (closed_by_peer s o call b)
-unfolding is_told_now
+    → (b : Bool) → is_sent_now s o call reply ≡ b → IsGood s heard moment (Comes.Peer call reply) (closed_by_peer s o call b)
+unfolding is_sent_now
 good_closed_by_peer s heard moment o call reply d named c false e = good_again s heard moment (Comes.Peer call reply) o d c named
-good_closed_by_peer s heard moment o (Calls.Notify job place base note) Peers.Noted d named c true e =
-    let u = untold_is o.job place s.book e in
+good_closed_by_peer s heard moment o (Calls.Notify job index base note) Peers.Noted d named c true e =
+    let u = unsent_is o.job index s.book e in
     let j = (opening_has s.book job o named).1 in
-    let due : IsDue s.book (Enters.Sent o.job place) = record { closed = c; owed = u.0; new = u.1 } in
+    let due : IsDue s.book (Enters.Sent (record { job = o.job; index = index })) = record { closed = c; owed = u.0; new = u.1 } in
     let few = few_owed s o.job d in
     let l = u.0 in
-    let m = follows s (Enters.Sent o.job place) d refl (job_coded s o d (opening_has s.book job o named).0, omega (arith, few, l)) tt due in
-    good_chore s heard moment (Comes.Peer (Calls.Notify job place base note) Peers.Noted) o.job (Enters.Sent o.job place) d c (record { follows = m; keys = tt; held = tt; removals = tt; tickets = tt }) (λ i n. another i o.job n)
+    let m = follows s (Enters.Sent (record { job = o.job; index = index })) d refl (job_coded s o d (opening_has s.book job o named).0, omega (arith, few, l)) tt due in
+    good_chore s heard moment (Comes.Peer (Calls.Notify job index base note) Peers.Noted) o.job (Enters.Sent (record { job = o.job; index = index })) d c (record { follows = m; keys = tt; held = tt; removals = tt; tickets = tt }) (λ i n. another i o.job n)
     (unprompted job s.book true (subst (λ k. is_closed k s.book ≡ true) j c) refl)
 good_closed_by_peer s heard moment o call reply d named c true e = cc

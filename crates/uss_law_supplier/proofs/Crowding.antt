@@ -15,7 +15,7 @@ use Rattle.uss_event.specs.declared.events.Said.TheVariants as Says
 use Rattle.uss_event.specs.declared.events.Event.TheVariants as Comes
 use Rattle.uss_law_dss.specs.Fits.{fits}
 use Rattle.uss_law_dss.proofs.Tests.{equal_number, some_same, less_test}
-use Rattle.uss_law_book.specs.Lists.{Opening}
+use Rattle.uss_event.specs.declared.entries.Opening.{Opening}
 use Rattle.uss_law_duty.specs.Answers.{flight_of}
 use Rattle.uss_law_duty.specs.Duties.{clamped}
 use Rattle.uss_law_duty.specs.Sayings.{most_looked_at, others, SayingHasCause}

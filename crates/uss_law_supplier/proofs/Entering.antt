@@ -12,8 +12,11 @@ use Rattle.uss_event.specs.declared.entries.Entry.TheVariants as Enters
 use Rattle.uss_event.specs.declared.entries.Ending.{Ending}
 use Rattle.uss_event.specs.declared.events.Event.{Event}
 use Rattle.uss_law_dss.proofs.Tests.{equal_number, unequal_number, not_both, right_true}
-use Rattle.uss_law_book.specs.Lists.{Opening, Trial, Closing, trials}
-use Rattle.uss_law_book.specs.Readings.{is_held, is_done, is_closed, is_put, decision_of, trials_of, base_of, is_ticket_open, rounds_of}
+use Rattle.uss_event.specs.declared.entries.Opening.{Opening}
+use Rattle.uss_event.specs.declared.entries.Trial.{Trial}
+use Rattle.uss_event.specs.declared.entries.Closing.{Closing}
+use Rattle.uss_law_book.specs.Lists.{trials}
+use Rattle.uss_law_book.specs.Contents.{is_held, is_done, is_closed, is_put, decision_of, trials_of, current_ovn_of, is_ticket_open, rounds_of}
 use Rattle.uss_intent.specs.Texts.{IsOvn}
 use Rattle.uss_intent.specs.States.{is_strategic}
 use Rattle.uss_law_book.specs.Coding.{IsDecision, IsEnding, AreOwed}
@@ -41,7 +44,7 @@ pending_leaves_open : (s : Standing) (o : Opening) (alternative : ℕ) (key : Li
 unfolding is_held is_done
 pending_leaves_open s o alternative key = refl
 
-decision_leaves_open : (job : ℕ) (end : Ending) → is_closed job (Enters.Deciding job end ∷ []) ≡ false
+decision_leaves_open : (job : ℕ) (end : Ending) → is_closed job (Enters.Deciding (record { job = job; end = end }) ∷ []) ≡ false
 unfolding is_held is_done
 decision_leaves_open job end = refl
 
@@ -49,11 +52,11 @@ ticket_leaves_open : (job : ℕ) → is_closed job (Enters.TicketOpen job ∷ []
 unfolding is_held is_done
 ticket_leaves_open job = refl
 
-done_closes_it : (job : ℕ) (end : Ending) → is_closed job (Enters.Done job end ∷ []) ≡ true
+done_closes_it : (job : ℕ) (end : Ending) → is_closed job (Enters.Done (record { job = job; end = end }) ∷ []) ≡ true
 unfolding is_held is_done
 done_closes_it job end = rw (equal_number job job refl) refl
 
-held_closes_it : (job tag : ℕ) (ovn : List ℕ) (version : ℕ) (owed : List Subscriber) → is_closed job (Enters.Held job tag ovn version owed ∷ []) ≡ true
+held_closes_it : (job tag : ℕ) (ovn : List ℕ) (version : ℕ) (owed : List Subscriber) → is_closed job (Enters.Held (record { job = job; tag = tag; ovn = ovn; version = version; owed = owed }) ∷ []) ≡ true
 unfolding is_held is_done
 held_closes_it job tag ovn version owed = rw (equal_number job job refl) refl
 
@@ -83,7 +86,7 @@ pub record IsRight (s : Standing) (o : Opening) (alternative : ℕ) (key : List 
 tried_then : (s : Standing) (o : Opening) (alternative : ℕ) (key : List (List ℕ)) → 1 ≤ length (trials_of o.job (s.book ++ pending s o alternative key ∷ []))
 unfolding trials_of
 tried_then s o alternative key =
-    let t : Trial = record { job = o.job; tag = length (trials s.book) + 1; alternative = alternative; previous = base_of o.ask.flight s.book; key = key } in
+    let t : Trial = record { job = o.job; tag = length (trials s.book) + 1; alternative = alternative; previous = current_ovn_of o.ask.flight s.book; key = key } in
     let a : trials_of o.job (pending s o alternative key ∷ []) ≡ t ∷ [] = rw (equal_number o.job o.job refl) refl in
     let g : length (trials_of o.job (s.book ++ pending s o alternative key ∷ [])) ≡ length (trials_of o.job s.book) + 1 =
     ap length (trials_either o.job s.book (pending s o alternative key ∷ []) ∙ ap (λ (l : List Trial). trials_of o.job s.book ++ l) a) ∙ length-append (trials_of o.job s.book) (t ∷ []) in
@@ -105,7 +108,7 @@ good_attempting s heard moment event o alternative key a r k valid =
       round = r.round;
       next = refl;
       one_of = r.one_of;
-      base = refl;
+      current = refl;
       few = r.few;
       blind = r.blind;
     } in
@@ -133,7 +136,7 @@ put_with End h = cc
 
 pub good_deciding : (s : Standing) (heard : List News) (moment : ℤ) (event : Event) (o : Opening) (end : Ending) → IsAt s o → MayGiveUp s o end → IsDecision end → IsGood s heard moment event (deciding s o end)
 good_deciding s heard moment event o end a g valid =
-    let e = Enters.Deciding o.job end in
+    let e = Enters.Deciding (record { job = o.job; end = end }) in
     let w = put_with o.ask.wish g.put in
     let due : IsDue s.book e = record {
       opening = o;
@@ -155,16 +158,16 @@ good_deciding s heard moment event o end a g valid =
 pub good_ending : (s : Standing) (heard : List News) (moment : ℤ) (event : Event) (o : Opening) (end : Ending) → IsAt s o → MayEnd s.book o.job end → EndsAs s.owner s.book event o.job end
     → job_named event s.book ≡ Some o → IsEnding end → IsGood s heard moment event (ending s o end)
 good_ending s heard moment event o end a due shown n valid =
-    let e = Enters.Done o.job end in
+    let e = Enters.Done (record { job = o.job; end = end }) in
     let m = follows s e a.sound refl (job_coded s o a.sound a.has, valid) tt due in
     good_closing s heard moment event o e a (record { follows = m; keys = tt; held = tt; removals = shown; tickets = tt }) (done_closes_it o.job end) (λ i n. another i o.job n) n
 
 -- a record
 
 pub good_holding : (s : Standing) (heard : List News) (moment : ℤ) (event : Event) (o : Opening) (tag : ℕ) (ovn : List ℕ) (version : ℕ) (owed : List Subscriber) → IsAt s o → MayHold s.book o.job tag
-    → HoldsByReply s.owner s.book event o.job tag ovn version → job_named event s.book ≡ Some o → IsOvn ovn → version < 2 ^ 32 → AreOwed owed → IsGood s heard moment event (entering s (Enters.Held o.job tag ovn version owed) (answering o))
+    → HoldsByReply s.owner s.book event o.job tag ovn version → job_named event s.book ≡ Some o → IsOvn ovn → version < 2 ^ 32 → AreOwed owed → IsGood s heard moment event (entering s (Enters.Held (record { job = o.job; tag = tag; ovn = ovn; version = version; owed = owed })) (answering o))
 good_holding s heard moment event o tag ovn version owed a due shown n valid fits few =
-    let e = Enters.Held o.job tag ovn version owed in
+    let e = Enters.Held (record { job = o.job; tag = tag; ovn = ovn; version = version; owed = owed }) in
     let m = follows s e a.sound refl (held_coded s o tag ovn version owed a.sound a.has due.own valid fits few) tt due in
     good_closing s heard moment event o e a (record { follows = m; keys = tt; held = shown; removals = tt; tickets = tt }) (held_closes_it o.job tag ovn version owed) (λ i n. another i o.job n) n
 

@@ -7,7 +7,8 @@ use Rattle.uss_event.specs.declared.calls.Outgoing.TheVariants as Goes
 use Rattle.uss_event.specs.declared.events.Said.{Said}
 use Rattle.uss_event.specs.declared.events.Event.{Event}
 use Rattle.uss_law_dss.specs.Lists.{Has}
-use Rattle.uss_law_book.specs.Lists.{Opening, owner_of, openings}
+use Rattle.uss_event.specs.declared.entries.Opening.{Opening}
+use Rattle.uss_law_book.specs.Lists.{owner_of, openings}
 use Rattle.uss_law_book.specs.Reserve.{ReserveCovers}
 use Rattle.uss_law_book.specs.Legal.{MayFollow, IsLegal}
 use Rattle.uss_law_book.specs.Orderly.{IsOrderly}

@@ -32,8 +32,10 @@ use Rattle.uss_event.specs.declared.events.Event.{Event}
 use Rattle.uss_event.specs.declared.events.Event.TheVariants as Comes
 use Rattle.uss_plan.specs.declared.choice.Choice.{Choice}
 use Rattle.uss_plan.specs.declared.choice.Choice.TheVariants.{Chosen, Blocked}
-use Rattle.uss_law_book.specs.Lists.{Opening, Trial, Closing}
-use Rattle.uss_law_book.specs.Readings.{is_closed, decision_of, trials_of, opening_of, open_job_of, last_of}
+use Rattle.uss_event.specs.declared.entries.Opening.{Opening}
+use Rattle.uss_event.specs.declared.entries.Trial.{Trial}
+use Rattle.uss_event.specs.declared.entries.Closing.{Closing}
+use Rattle.uss_law_book.specs.Contents.{is_closed, decision_of, trials_of, opening_of, open_job_of, last_of}
 use Rattle.uss_law_book.specs.Attempts.{held}
 use Rattle.uss_event.specs.Heard.{News, by_pair}
 use Rattle.uss_law_duty.specs.Entered.{shown_tag}
@@ -53,7 +55,7 @@ use Rattle.uss_law_supplier.specs.Asks.{opening_entry, opening_for, new_refusal,
 use Rattle.uss_law_supplier.specs.Cancels.{cancelled_open, cancelled_job, cancelled_after}
 use Rattle.uss_law_supplier.specs.Monitor.{Sighting, later_position}
 use Rattle.uss_law_supplier.specs.Positions.{sighting_of, found_with, wished, is_refused, counted_unless, acting_as, judged_as, judged_unless, is_numbered, positioned_for, positioned_with}
-use Rattle.uss_law_supplier.specs.Replies.{retires, is_told_now, heard_by, hearing_it, closed_by_dss, closed_by_peer, of_job_by_dss, of_job_by_peer, replied_to, replied_to_peer}
+use Rattle.uss_law_supplier.specs.Replies.{retires, is_sent_now, heard_by, hearing_it, closed_by_dss, closed_by_peer, of_job_by_dss, of_job_by_peer, replied_to, replied_to_peer}
 use Rattle.uss_law_supplier.specs.Step.{is_of_another, notified_by, stepped}
 use Rattle.uss_law_supplier.specs.Keeping.{news_of, counted_position, counted_by, counted_of, WaitsThen, Advances, Changes, StepsChangeSo}
 use Rattle.uss_law_supplier.proofs.Waits.{awaiting_own, awaiting_other, without_own, other_without, unawaited_own, unawaited_other, round_awaited, round_other}
@@ -132,7 +134,7 @@ kept_recording s o owed None = kept_none s.values o.job
 kept_recording s o owed (Some r) = kept_holding s o owed r (shown_tag r) r.ovn
 
 kept_deciding : (s : Standing) (o : Opening) (end : Ending) → IsKept s.values o.job (deciding s o end)
-kept_deciding s o end = kept_asking (entered s (Enters.Deciding o.job end)) o Waits.TicketRemove
+kept_deciding s o end = kept_asking (entered s (Enters.Deciding (record { job = o.job; end = end }))) o Waits.TicketRemove
 
 kept_giving_up : (s : Standing) (o : Opening) (end : Ending) (ts : List Trial) → IsKept s.values o.job (giving_up_after s o end ts)
 kept_giving_up s o end [] = kept_ending s o end
@@ -237,7 +239,7 @@ kept_of_job s o call reply true = kept_closed s o (retires s o call.ask reply)
 kept_of_job s o call reply false = kept_open s o reply _
 
 kept_of_job_peer : (s : Standing) (o : Opening) (call : PeerCall) (reply : PeerReply) (b : Bool) → IsKept s.values o.job (of_job_by_peer s o call reply b)
-kept_of_job_peer s o call reply true = kept_closed_peer s o call (is_told_now s o call reply)
+kept_of_job_peer s o call reply true = kept_closed_peer s o call (is_sent_now s o call reply)
 kept_of_job_peer s o call reply false = kept_open_peer s o call reply _
 
 -- of some job

@@ -19,8 +19,8 @@ use Rattle.uss_event.specs.declared.events.Answer.TheVariants as Answers
 use Rattle.uss_event.specs.declared.events.Event.{Event}
 use Rattle.uss_event.specs.declared.events.Event.TheVariants as Comes
 use Rattle.uss_law_dss.proofs.Tests.{same_number, same_bytes, both, some_same}
-use Rattle.uss_law_book.specs.Lists.{Opening}
-use Rattle.uss_law_book.specs.Readings.{opening_of, is_open}
+use Rattle.uss_event.specs.declared.entries.Opening.{Opening}
+use Rattle.uss_law_book.specs.Contents.{opening_of, is_open}
 use Rattle.uss_law_book.proofs.Kept.{opening_has}
 use Rattle.uss_event.specs.Heard.{News, by_reply}
 use Rattle.uss_law_duty.specs.Answers.{job_of_call, job_named}
@@ -139,9 +139,9 @@ good_by_peer s heard moment o job flight manager base reply a named hears fit wa
     (subst (λ (x : Turn). IsGood t heard moment (Comes.Peer call reply) x) acts
     (by_reply_of t heard moment o job flight manager base reply here (opening_has s.book job o named).1 p (subst (HearsOnly heard (Comes.Peer call reply)) (sym (round_heard s o call reply)) hears) named fit))
 
-no_details : (s : Standing) (o : Opening) (job place : ℕ) (base : List ℕ) (note : Note) → IsAt s o → awaited_of o.job s.values ≡ Some (Goes.Peer (Calls.Notify job place base note)) → ⊥
-no_details s o job place base note a w =
-    let x : IsPeerAwaited s.book s.values o.job (Calls.Notify job place base note) = a.sound.fit o.job (Goes.Peer (Calls.Notify job place base note)) w in
+no_details : (s : Standing) (o : Opening) (job index : ℕ) (base : List ℕ) (note : Note) → IsAt s o → awaited_of o.job s.values ≡ Some (Goes.Peer (Calls.Notify job index base note)) → ⊥
+no_details s o job index base note a w =
+    let x : IsPeerAwaited s.book s.values o.job (Calls.Notify job index base note) = a.sound.fit o.job (Goes.Peer (Calls.Notify job index base note)) w in
     let e = x.is in
     cc
 
@@ -151,9 +151,9 @@ good_open_by_peer s heard moment o call reply a named hears false e = good_resum
 good_open_by_peer s heard moment o (Calls.Details job flight manager base) reply a named hears true e =
     let p = both (peer_fits (Calls.Details job flight manager base) reply) (waits_for_peer s o (Calls.Details job flight manager base)) e in
     good_by_peer s heard moment o job flight manager base reply a named hears p.0 (awaited_peer (Calls.Details job flight manager base) (awaited_of o.job s.values) p.1)
-good_open_by_peer s heard moment o (Calls.Notify job place base note) reply a named hears true e =
-    let p = both (peer_fits (Calls.Notify job place base note) reply) (waits_for_peer s o (Calls.Notify job place base note)) e in
-    absurd (no_details s o job place base note a (awaited_peer (Calls.Notify job place base note) (awaited_of o.job s.values) p.1))
+good_open_by_peer s heard moment o (Calls.Notify job index base note) reply a named hears true e =
+    let p = both (peer_fits (Calls.Notify job index base note) reply) (waits_for_peer s o (Calls.Notify job index base note)) e in
+    absurd (no_details s o job index base note a (awaited_peer (Calls.Notify job index base note) (awaited_of o.job s.values) p.1))
 
 -- what is heard of a fitting pair
 pub hears_it : (heard : List News) (call : PeerCall) (reply : PeerReply) → HearsOnly heard (Comes.Peer call reply) (heard ++ heard_by call reply)

@@ -26,8 +26,10 @@ use Rattle.uss_event.specs.declared.events.Event.{Event}
 use Rattle.uss_event.specs.declared.events.Event.TheVariants as Comes
 use Rattle.uss_plan.specs.declared.choice.Choice.{Choice}
 use Rattle.uss_plan.specs.declared.choice.Choice.TheVariants.{Chosen, Blocked}
-use Rattle.uss_law_book.specs.Lists.{Opening, Trial, Closing}
-use Rattle.uss_law_book.specs.Readings.{is_closed}
+use Rattle.uss_event.specs.declared.entries.Opening.{Opening}
+use Rattle.uss_event.specs.declared.entries.Trial.{Trial}
+use Rattle.uss_event.specs.declared.entries.Closing.{Closing}
+use Rattle.uss_law_book.specs.Contents.{is_closed}
 use Rattle.uss_law_supplier.specs.declared.duties.Awaited.{Awaited}
 use Rattle.uss_law_supplier.specs.declared.duties.Awaited.TheVariants as Waits
 use Rattle.uss_law_supplier.specs.declared.duties.Duty.{Duty}

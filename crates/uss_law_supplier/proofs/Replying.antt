@@ -14,8 +14,8 @@ use Rattle.uss_event.specs.declared.events.Event.{Event}
 use Rattle.uss_event.specs.declared.events.Event.TheVariants as Comes
 use Rattle.uss_law_dss.specs.Fits.{fits}
 use Rattle.uss_law_dss.proofs.Tests.{same_number, both, some_same}
-use Rattle.uss_law_book.specs.Lists.{Opening}
-use Rattle.uss_law_book.specs.Readings.{opening_of}
+use Rattle.uss_event.specs.declared.entries.Opening.{Opening}
+use Rattle.uss_law_book.specs.Contents.{opening_of}
 use Rattle.uss_law_book.proofs.Kept.{opening_has}
 use Rattle.uss_event.specs.Heard.{News}
 use Rattle.uss_law_duty.specs.Answers.{flight_of}

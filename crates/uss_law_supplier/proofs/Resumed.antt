@@ -7,7 +7,7 @@ use Rattle.uss_event.specs.declared.calls.Outgoing.{Outgoing}
 use Rattle.uss_event.specs.declared.calls.Outgoing.TheVariants as Goes
 use Rattle.uss_event.specs.declared.events.Event.{Event}
 use Rattle.uss_event.specs.declared.events.Event.TheVariants as Comes
-use Rattle.uss_law_book.specs.Lists.{Opening}
+use Rattle.uss_event.specs.declared.entries.Opening.{Opening}
 use Rattle.uss_law_book.proofs.Kept.{opening_has}
 use Rattle.uss_law_supplier.specs.declared.duties.Awaited.{Awaited}
 use Rattle.uss_law_supplier.specs.declared.duties.Awaited.TheVariants as Waits

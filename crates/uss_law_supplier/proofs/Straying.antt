@@ -9,8 +9,8 @@ use Rattle.uss_event.specs.declared.asks.Conform.TheVariants as Finds
 use Rattle.uss_event.specs.declared.asks.PositionAsk.{PositionAsk}
 use Rattle.uss_event.specs.declared.events.Event.{Event}
 use Rattle.uss_event.specs.declared.events.Event.TheVariants as Comes
-use Rattle.uss_law_book.specs.Lists.{Opening}
-use Rattle.uss_law_book.specs.Readings.{open_job_of}
+use Rattle.uss_event.specs.declared.entries.Opening.{Opening}
+use Rattle.uss_law_book.specs.Contents.{open_job_of}
 use Rattle.uss_law_book.specs.Attempts.{held}
 use Rattle.uss_law_dss.proofs.Tests.{same_number}
 use Rattle.uss_law_duty.specs.Duties.{clamped}

@@ -5,8 +5,8 @@ use Rattle.uss_event.specs.declared.asks.FlightAsk.{FlightAsk}
 use Rattle.uss_event.specs.declared.entries.Owner.{Owner}
 use Rattle.uss_event.specs.declared.entries.Entry.{Entry}
 use Rattle.uss_event.specs.declared.events.Event.TheVariants as Comes
-use Rattle.uss_law_book.specs.Lists.{Opening}
-use Rattle.uss_law_book.specs.Readings.{is_closed, last_of}
+use Rattle.uss_event.specs.declared.entries.Opening.{Opening}
+use Rattle.uss_law_book.specs.Contents.{is_closed, last_of}
 use Rattle.uss_law_duty.specs.Answers.{kept_answer}
 use Rattle.uss_law_supplier.specs.Values.{Values}
 use Rattle.uss_law_supplier.specs.Turns.{saying, said_of}

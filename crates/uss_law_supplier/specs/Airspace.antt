@@ -13,7 +13,8 @@ use Rattle.uss_event.specs.declared.entries.Entry.{Entry}
 use Rattle.uss_plan.specs.declared.choice.Choice.{Choice}
 use Rattle.uss_plan.specs.declared.choice.Choice.TheVariants.{Chosen}
 use Rattle.uss_plan.specs.Choice.{wanted, choice}
-use Rattle.uss_law_book.specs.Lists.{Opening, openings}
+use Rattle.uss_event.specs.declared.entries.Opening.{Opening}
+use Rattle.uss_law_book.specs.Lists.{openings}
 use Rattle.uss_law_book.specs.Attempts.{held}
 use Rattle.uss_event.specs.Heard.{News, kept_pair}
 use Rattle.uss_law_duty.specs.Answers.{flight_of}

@@ -20,8 +20,9 @@ use Rattle.uss_event.specs.declared.asks.AskRefusal.TheVariants as Refuses
 use Rattle.uss_event.specs.declared.entries.Entry.{Entry}
 use Rattle.uss_event.specs.declared.entries.Entry.TheVariants as Enters
 use Rattle.uss_event.specs.declared.events.Said.TheVariants as Says
-use Rattle.uss_law_book.specs.Lists.{Opening, openings}
-use Rattle.uss_law_book.specs.Readings.{is_closed, open_job_of, last_of, has_ended}
+use Rattle.uss_event.specs.declared.entries.Opening.{Opening}
+use Rattle.uss_law_book.specs.Lists.{openings}
+use Rattle.uss_law_book.specs.Contents.{is_closed, open_job_of, last_of, has_ended}
 use Rattle.uss_law_book.specs.Attempts.{held_state}
 use Rattle.uss_law_book.specs.Coding.{journal_length, record_length}
 use Rattle.uss_law_book.specs.Reserve.{journal_limit, job_room, need}
@@ -105,7 +106,7 @@ too_far moment ask =
 
 -- the entry that opens a job for the request: the next job
 abbrev pub opening_entry : List Entry → ℤ → FlightAsk → Entry
-opening_entry book moment ask = Enters.Opened (length (openings book) + 1) moment ask
+opening_entry book moment ask = Enters.Opened (record { job = length (openings book) + 1; moment = moment; ask = ask })
 
 -- 310: the journal hasn't the room that the job may need, and its first entry, beside what is kept free
 abbrev pub full : List Entry → ℤ → FlightAsk → Option AskRefusal

@@ -15,8 +15,9 @@ use Rattle.uss_event.specs.declared.calls.PeerCall.{PeerCall}
 use Rattle.uss_event.specs.declared.calls.PeerCall.TheVariants as Calls
 use Rattle.uss_event.specs.declared.calls.Outgoing.{Outgoing}
 use Rattle.uss_event.specs.declared.calls.Outgoing.TheVariants as Goes
-use Rattle.uss_law_book.specs.Lists.{Opening, Trial}
-use Rattle.uss_law_book.specs.Readings.{trials_of, base_of}
+use Rattle.uss_event.specs.declared.entries.Opening.{Opening}
+use Rattle.uss_event.specs.declared.entries.Trial.{Trial}
+use Rattle.uss_law_book.specs.Contents.{trials_of, current_ovn_of}
 use Rattle.uss_law_book.specs.Attempts.{Attempted, attempt_of, put_of}
 use Rattle.uss_law_duty.specs.Answers.{flight_of}
 use Rattle.uss_law_duty.specs.Sends.{area_round, ticket_put, ticket_remove}
@@ -52,7 +53,7 @@ call_with owner o attempt base Waits.Remove = option_map (λ ovn. Asks.Remove (f
 
 -- and as the book has it
 abbrev pub call_of : Owner → List Entry → Opening → Awaited → Option DssAsk
-call_of owner book o kind = call_with owner o (last_attempt o.job book) (base_of o.ask.flight book) kind
+call_of owner book o kind = call_with owner o (last_attempt o.job book) (current_ovn_of o.ask.flight book) kind
 
 -- of which kind a call is; no job asks for a ticket, and a notification isn't waited for
 abbrev pub kind_of_ask : DssAsk → Option Awaited
@@ -66,7 +67,7 @@ kind_of_ask (Asks.TicketRemove ticket version) = Some Waits.TicketRemove
 
 abbrev pub kind_of_call : PeerCall → Option Awaited
 kind_of_call (Calls.Details job flight manager base) = Some Waits.Details
-kind_of_call (Calls.Notify job place base note) = None
+kind_of_call (Calls.Notify job index base note) = None
 
 abbrev pub kind_of : Outgoing → Option Awaited
 kind_of (Goes.Dss call) = kind_of_ask call.ask

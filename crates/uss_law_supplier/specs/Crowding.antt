@@ -10,8 +10,8 @@ use Rattle.uss_event.specs.declared.events.Answer.TheVariants as Answers
 use Rattle.uss_event.specs.declared.events.Said.TheVariants as Says
 use Rattle.uss_event.specs.declared.events.Event.TheVariants as Comes
 use Rattle.uss_law_dss.specs.Fits.{fits}
-use Rattle.uss_law_book.specs.Lists.{Opening}
-use Rattle.uss_law_book.specs.Readings.{opening_of, is_closed}
+use Rattle.uss_event.specs.declared.entries.Opening.{Opening}
+use Rattle.uss_law_book.specs.Contents.{opening_of, is_closed}
 use Rattle.uss_law_duty.specs.Answers.{flight_of}
 use Rattle.uss_law_duty.specs.Sayings.{most_looked_at, others}
 use Rattle.uss_law_supplier.specs.Values.{Values, awaited_of}

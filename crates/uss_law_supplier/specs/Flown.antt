@@ -52,16 +52,16 @@ ticket_round job area = Asks.TicketPut (ticket_number 1 job) area (codes "http:/
 
 -- the straying flight is held so
 abbrev pub nonconforming_book : List Entry
-nonconforming_book = strayed_tried_book ++ Enters.Held 3 3 (codes "ovn-0000000000000003") 3 [] ∷ []
+nonconforming_book = strayed_tried_book ++ Enters.Held (record { job = 3; tag = 3; ovn = codes "ovn-0000000000000003"; version = 3; owed = [] }) ∷ []
 
 -- and a lost flight is held so
 abbrev pub contingent_book : List Entry
 contingent_book =
     nonconforming_book
-    ++ Enters.Opened 4 two_minutes_later (losing 4)
+    ++ Enters.Opened (record { job = 4; moment = two_minutes_later; ask = losing 4 })
     ∷ Enters.TicketOpen 4
-    ∷ Enters.Pending 4 4 0 (Some (codes "ovn-0000000000000003")) []
-    ∷ Enters.Held 4 4 (codes "ovn-0000000000000004") 4 []
+    ∷ Enters.Pending (record { job = 4; tag = 4; alternative = 0; previous = Some (codes "ovn-0000000000000003"); key = [] })
+    ∷ Enters.Held (record { job = 4; tag = 4; ovn = codes "ovn-0000000000000004"; version = 4; owed = [] })
     ∷ []
 
 -- a request of the flight at priority 5, which is then flown, and held as straying
@@ -71,11 +71,11 @@ at_five number to rounds p = record { flight = 1; number = number; wish = Put to
 abbrev pub prior_book : List Entry
 prior_book =
     new_book
-    ++ Enters.Opened 1 now (at_five 1 Accepted 4 proposal)
+    ++ Enters.Opened (record { job = 1; moment = now; ask = at_five 1 Accepted 4 proposal })
     ∷ heard_open
     ∷ pending
     ∷ recorded
-    ∷ Enters.Opened 2 now (at_five 2 Activated 4 proposal)
+    ∷ Enters.Opened (record { job = 2; moment = now; ask = at_five 2 Activated 4 proposal })
     ∷ Enters.TicketOpen 2
     ∷ flown_pending
     ∷ flown_held
@@ -84,10 +84,10 @@ prior_book =
 abbrev pub prior_strayed_book : List Entry
 prior_strayed_book =
     prior_book
-    ++ Enters.Opened 3 first_seen (at_five 3 Nonconforming 1 with_around)
+    ++ Enters.Opened (record { job = 3; moment = first_seen; ask = at_five 3 Nonconforming 1 with_around })
     ∷ Enters.TicketOpen 3
     ∷ strayed_pending
-    ∷ Enters.Held 3 3 (codes "ovn-0000000000000003") 3 []
+    ∷ Enters.Held (record { job = 3; tag = 3; ovn = codes "ovn-0000000000000003"; version = 3; owed = [] })
     ∷ []
 
 -- it was seen outside, or inside, at a moment

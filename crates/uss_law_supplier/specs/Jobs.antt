@@ -30,8 +30,11 @@ use Rattle.uss_event.specs.declared.events.Answer.TheVariants as Answers
 use Rattle.uss_event.specs.declared.events.Said.TheVariants as Says
 use Rattle.uss_plan.specs.declared.choice.Choice.{Choice}
 use Rattle.uss_plan.specs.declared.choice.Choice.TheVariants.{Chosen, Blocked}
-use Rattle.uss_law_book.specs.Lists.{Opening, Trial, Closing, trials}
-use Rattle.uss_law_book.specs.Readings.{owns, decision_of, base_of, is_ticket_open, trials_of, rounds_of}
+use Rattle.uss_event.specs.declared.entries.Opening.{Opening}
+use Rattle.uss_event.specs.declared.entries.Trial.{Trial}
+use Rattle.uss_event.specs.declared.entries.Closing.{Closing}
+use Rattle.uss_law_book.specs.Lists.{trials}
+use Rattle.uss_law_book.specs.Contents.{owns, decision_of, current_ovn_of, is_ticket_open, trials_of, rounds_of}
 use Rattle.uss_law_duty.specs.Answers.{flight_of, kept_answer}
 use Rattle.uss_law_duty.specs.Sayings.{others}
 use Rattle.uss_law_duty.specs.Entered.{shown_tag}
@@ -141,7 +144,7 @@ asking s o kind = making s o.job (call_of s.owner s.book o kind)
 
 -- it makes an attempt of an alternative, with a key: under the next tag of the book, from what is held of the flight; and makes its Put
 abbrev pub pending : Standing → Opening → ℕ → List (List ℕ) → Entry
-pending s o alternative key = Enters.Pending o.job (length (trials s.book) + 1) alternative (base_of o.ask.flight s.book) key
+pending s o alternative key = Enters.Pending (record { job = o.job; tag = length (trials s.book) + 1; alternative = alternative; previous = current_ovn_of o.ask.flight s.book; key = key })
 
 abbrev pub attempting : Standing → Opening → ℕ → List (List ℕ) → Turn
 attempting s o alternative key = entering s (pending s o alternative key) (λ after. asking after o Waits.Put)
@@ -151,10 +154,10 @@ abbrev pub answering : Opening → Standing → Turn
 answering o after = saying (without_job o.job after.values) (said_of (kept_answer after.owner o after.book))
 
 abbrev pub ending : Standing → Opening → Ending → Turn
-ending s o end = entering s (Enters.Done o.job end) (answering o)
+ending s o end = entering s (Enters.Done (record { job = o.job; end = end })) (answering o)
 
 abbrev pub holding_as : Standing → Opening → List Subscriber → Reference → Option ℕ → Option (List ℕ) → Turn
-holding_as s o owed r (Some tag) (Some ovn) = entering s (Enters.Held o.job tag ovn r.version owed) (answering o)
+holding_as s o owed r (Some tag) (Some ovn) = entering s (Enters.Held (record { job = o.job; tag = tag; ovn = ovn; version = r.version; owed = owed })) (answering o)
 holding_as s o owed r tag ovn = saying s.values Says.Nothing
 
 -- it holds what the reference shows: the tag, the OVN and the version; and owes a notification to each subscriber that the reply listed
@@ -164,7 +167,7 @@ recording s o owed (Some r) = holding_as s o owed r (shown_tag r) r.ovn
 
 -- it makes no further attempt, and takes its ticket out: once that is gone, no attempt of the job can be recorded
 abbrev pub deciding : Standing → Opening → Ending → Turn
-deciding s o end = entering s (Enters.Deciding o.job end) (λ after. asking after o Waits.TicketRemove)
+deciding s o end = entering s (Enters.Deciding (record { job = o.job; end = end })) (λ after. asking after o Waits.TicketRemove)
 
 -- it gives up: at once where it made no attempt, since nothing can be recorded then
 abbrev pub giving_up_after : Standing → Opening → Ending → List Trial → Turn
@@ -252,7 +255,7 @@ carry_out s o reply duty = carry_on s o duty
 -- likewise of another supplier
 abbrev pub manager_of : PeerCall → List ℕ
 manager_of (Calls.Details job flight manager base) = manager
-manager_of (Calls.Notify job place base note) = []
+manager_of (Calls.Notify job index base note) = []
 
 abbrev pub status_of : PeerReply → ℕ
 status_of (Peers.Status status) = status

@@ -9,7 +9,7 @@ use Rattle.uss_event.specs.declared.calls.Outgoing.{Outgoing}
 use Rattle.uss_event.specs.declared.events.Said.{Said}
 use Rattle.uss_event.specs.declared.events.Event.{Event}
 use Rattle.uss_event.specs.declared.events.Event.TheVariants as Comes
-use Rattle.uss_law_book.specs.Readings.{open_job_of}
+use Rattle.uss_law_book.specs.Contents.{open_job_of}
 use Rattle.uss_law_book.specs.Attempts.{held}
 use Rattle.uss_event.specs.Heard.{News, by_pair}
 use Rattle.uss_law_duty.specs.Duties.{clamped}

@@ -23,35 +23,35 @@ third_subscriber = record { base = codes "http://uss3.test"; ticket = ticket_num
 abbrev pub chores_book : List Entry
 chores_book =
     tried_book
-    ++ Enters.Held 1 1 ovn 1 (subscriber ∷ third_subscriber ∷ [])
+    ++ Enters.Held (record { job = 1; tag = 1; ovn = ovn; version = 1; owed = subscriber ∷ third_subscriber ∷ [] })
     ∷ flown_opened
     ∷ Enters.TicketOpen 2
     ∷ flown_pending
-    ∷ Enters.Held 2 2 flown_ovn 2 (subscriber ∷ [])
-    ∷ Enters.Opened 3 now upper_ask
+    ∷ Enters.Held (record { job = 2; tag = 2; ovn = flown_ovn; version = 2; owed = subscriber ∷ [] })
+    ∷ Enters.Opened (record { job = 3; moment = now; ask = upper_ask })
     ∷ Enters.TicketOpen 3
-    ∷ Enters.Done 3 Ends.Cancelled
+    ∷ Enters.Done (record { job = 3; end = Ends.Cancelled })
     ∷ []
 
 -- beside these, so many jobs are open, of flights 104 and on
 abbrev pub busy_chores_book : ℕ → List Entry
 busy_chores_book jobs = chores_book ++ map opens (range_with_len 4 jobs)
 
--- a job tells a subscriber, at a place, of what is held of the flight then
-abbrev pub tells_flown : ℕ → ℕ → Subscriber → Outgoing
-tells_flown job place s =
-    Goes.Peer (Calls.Notify job place s.base (record { flight = flight; pair = Some flown_pair; ticket = s.ticket; index = s.index }))
+-- a job notifies the subscriber with an index of what is held of the flight then
+abbrev pub notifies_flown : ℕ → ℕ → Subscriber → Outgoing
+notifies_flown job index s =
+    Goes.Peer (Calls.Notify job index s.base (record { flight = flight; pair = Some flown_pair; ticket = s.ticket; index = s.index }))
 
 -- the first of each is done
 abbrev pub fewer_chores_book : List Entry
-fewer_chores_book = chores_book ++ Enters.Sent 1 0 ∷ Enters.TicketGone 1 ∷ []
+fewer_chores_book = chores_book ++ Enters.Sent (record { job = 1; index = 0 }) ∷ Enters.TicketGone 1 ∷ []
 
 abbrev pub third_remove : DssAsk
 third_remove = Asks.TicketRemove (ticket_number 1 3) 1
 
--- the flight has ended, of which another supplier is to be told
+-- the flight has ended, of which another supplier is to be notified
 abbrev pub ended_owing : Entry
-ended_owing = Enters.Done 2 (Ends.Ended (subscriber ∷ []))
+ended_owing = Enters.Done (record { job = 2; end = Ends.Ended (subscriber ∷ []) })
 
-abbrev pub told_of_end : PeerCall
-told_of_end = Calls.Notify 2 0 subscriber.base (record { flight = flight; pair = None; ticket = subscriber.ticket; index = subscriber.index })
+abbrev pub notice_of_end : PeerCall
+notice_of_end = Calls.Notify 2 0 subscriber.base (record { flight = flight; pair = None; ticket = subscriber.ticket; index = subscriber.index })

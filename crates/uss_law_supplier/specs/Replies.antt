@@ -18,15 +18,15 @@ use Rattle.uss_event.specs.declared.calls.PeerReply.TheVariants as Peers
 use Rattle.uss_event.specs.declared.calls.Outgoing.TheVariants as Goes
 use Rattle.uss_event.specs.declared.events.Said.TheVariants as Says
 use Rattle.uss_law_dss.specs.Fits.{fits}
-use Rattle.uss_law_book.specs.Lists.{Opening}
-use Rattle.uss_law_book.specs.Readings.{opening_of, is_closed, is_ticket_due}
+use Rattle.uss_event.specs.declared.entries.Opening.{Opening}
+use Rattle.uss_law_book.specs.Contents.{opening_of, is_closed, is_ticket_due}
 use Rattle.uss_event.specs.Heard.{News, by_reply}
 use Rattle.uss_law_duty.specs.Answers.{job_of_call}
 use Rattle.uss_law_duty.specs.Sends.{ticket_remove}
 use Rattle.uss_law_supplier.specs.Values.{hearing, awaited_of}
 use Rattle.uss_law_supplier.specs.Calls.{is_it}
 use Rattle.uss_law_supplier.specs.Turns.{Standing, Turn, saying, entering}
-use Rattle.uss_law_supplier.specs.Chores.{is_to_tell}
+use Rattle.uss_law_supplier.specs.Chores.{is_unsent}
 use Rattle.uss_law_supplier.specs.Jobs.{with_values, open_by_dss, open_by_peer}
 use Rattle.uss_law_supplier.specs.Asks.{answered_again}
 
@@ -44,10 +44,10 @@ takes_out _ = false
 unfoldable pub retires : Standing → Opening → DssAsk → DssReply → Bool
 retires s o ask reply = same_ask ask (ticket_remove s.owner o.job) && (fits ask reply && (takes_out reply && is_ticket_due o.job s.book))
 
--- the call told what is still to be told. The place decides and not the note, since what is held may have changed meanwhile
-unfoldable pub is_told_now : Standing → Opening → PeerCall → PeerReply → Bool
-is_told_now s o (Calls.Notify job place base note) Peers.Noted = is_to_tell o.job place s.book
-is_told_now s o _ _ = false
+-- the call told who is still to be notified. The index decides and not the note, since what is held may have changed meanwhile
+unfoldable pub is_sent_now : Standing → Opening → PeerCall → PeerReply → Bool
+is_sent_now s o (Calls.Notify job index base note) Peers.Noted = is_unsent o.job index s.book
+is_sent_now s o _ _ = false
 
 abbrev pub saying_nothing : Standing → Turn
 saying_nothing after = saying after.values Says.Nothing
@@ -58,10 +58,10 @@ closed_by_dss s o false = answered_again s o
 
 abbrev pub place_of : PeerCall → ℕ
 place_of (Calls.Details job flight manager base) = 0
-place_of (Calls.Notify job place base note) = place
+place_of (Calls.Notify job index base note) = index
 
 abbrev pub closed_by_peer : Standing → Opening → PeerCall → Bool → Turn
-closed_by_peer s o call true = entering s (Enters.Sent o.job (place_of call)) saying_nothing
+closed_by_peer s o call true = entering s (Enters.Sent (record { job = o.job; index = place_of call })) saying_nothing
 closed_by_peer s o call false = answered_again s o
 
 -- the call is the one that the job waits for
@@ -77,7 +77,7 @@ of_job_by_dss s o call reply true = closed_by_dss s o (retires s o call.ask repl
 of_job_by_dss s o call reply false = open_by_dss s o reply (fits call.ask reply && waits_for_dss s o call)
 
 abbrev pub of_job_by_peer : Standing → Opening → PeerCall → PeerReply → Bool → Turn
-of_job_by_peer s o call reply true = closed_by_peer s o call (is_told_now s o call reply)
+of_job_by_peer s o call reply true = closed_by_peer s o call (is_sent_now s o call reply)
 of_job_by_peer s o call reply false = open_by_peer s o call reply (peer_fits call reply && waits_for_peer s o call)
 
 abbrev pub replied_to : Standing → DssCall → DssReply → Option Opening → Turn

@@ -2,8 +2,8 @@
 use Rattle.std.specs.Prelude.{ℕ, ◌≡◌, false, List, [], ◌∷◌, Option, Some, None}
 use Rattle.uss_event.specs.declared.entries.Entry.TheVariants as Enters
 use Rattle.uss_event.specs.declared.calls.Outgoing.{Outgoing}
-use Rattle.uss_law_book.specs.Lists.{Opening}
-use Rattle.uss_law_book.specs.Readings.{opening_of, is_closed}
+use Rattle.uss_event.specs.declared.entries.Opening.{Opening}
+use Rattle.uss_law_book.specs.Contents.{opening_of, is_closed}
 use Rattle.uss_law_supplier.specs.declared.duties.Awaited.{Awaited}
 use Rattle.uss_law_supplier.specs.declared.duties.Awaited.TheVariants as Waits
 use Rattle.uss_law_supplier.specs.declared.duties.Duty.{Duty}
@@ -25,7 +25,7 @@ pub record MakesCall (kind : Awaited) (t : Turn) : Type 0 where
 pub record MakesAttempt (job : ℕ) (t : Turn) : Type 0 where
   pub tag : ℕ
   pub previous : Option (List ℕ)
-  pub entry : t.entry ≡ Some (Enters.Pending job tag 0 previous [])
+  pub entry : t.entry ≡ Some (Enters.Pending (record { job = job; tag = tag; alternative = 0; previous = previous; key = [] }))
   pub call : Outgoing
   pub sends : t.sends ≡ call ∷ []
   pub is_of_kind : kind_of call ≡ Some Waits.Put

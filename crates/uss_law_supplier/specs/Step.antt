@@ -12,8 +12,8 @@ use Rattle.uss_event.specs.declared.calls.Note.{Note}
 use Rattle.uss_event.specs.declared.events.Said.TheVariants as Says
 use Rattle.uss_event.specs.declared.events.Event.{Event}
 use Rattle.uss_event.specs.declared.events.Event.TheVariants as Comes
-use Rattle.uss_law_book.specs.Lists.{Trial}
-use Rattle.uss_law_book.specs.Readings.{trials_of}
+use Rattle.uss_event.specs.declared.entries.Trial.{Trial}
+use Rattle.uss_law_book.specs.Contents.{trials_of}
 use Rattle.uss_event.specs.Heard.{by_pair}
 use Rattle.uss_law_supplier.specs.Values.{Values, unawaited, hearing}
 use Rattle.uss_law_supplier.specs.Turns.{Standing, Turn, saying}

@@ -28,14 +28,14 @@ use Rattle.uss_law_supplier.specs.Worked.{found_other, asked_round}
 
 -- the job's second attempt has a key, and its Put another tag and that key
 abbrev pub twice_book : List Entry
-twice_book = tried_book ++ Enters.Pending 1 2 0 None (other_ovn ∷ []) ∷ []
+twice_book = tried_book ++ Enters.Pending (record { job = 1; tag = 2; alternative = 0; previous = None; key = other_ovn ∷ [] }) ∷ []
 
 abbrev pub second_put : DssAsk
 second_put = Asks.Put flight None (volume ∷ []) (other_ovn ∷ []) Accepted (codes "http://uss1.test/a/2") ticket
 
 -- or it has the first's key, which is empty: then the Puts differ in their tags alone
 abbrev pub alike_book : List Entry
-alike_book = tried_book ++ Enters.Pending 1 2 0 None [] ∷ []
+alike_book = tried_book ++ Enters.Pending (record { job = 1; tag = 2; alternative = 0; previous = None; key = [] }) ∷ []
 
 abbrev pub alike_put : DssAsk
 alike_put = Asks.Put flight None (volume ∷ []) [] Accepted (codes "http://uss1.test/a/2") ticket
@@ -45,7 +45,7 @@ abbrev pub second_reference : Reference
 second_reference = record the_reference { base = codes "http://uss1.test/a/2" }
 
 abbrev pub second_recorded : Entry
-second_recorded = Enters.Held 1 2 ovn 1 []
+second_recorded = Enters.Held (record { job = 1; tag = 2; ovn = ovn; version = 1; owed = [] })
 
 abbrev pub planned_at_last : Said
 planned_at_last = Says.Answer (Planned flight 2 0 ovn 1)
@@ -62,7 +62,7 @@ in_progress jobs = record no_values { jobs = jobs }
 
 -- job 1 waits for its Put, and job 2, of flight 2, for what is found above flight 1; both have found something before
 abbrev pub both_book : List Entry
-both_book = tried_book ++ Enters.Opened 2 now upper_ask ∷ Enters.TicketOpen 2 ∷ []
+both_book = tried_book ++ Enters.Opened (record { job = 2; moment = now; ask = upper_ask }) ∷ Enters.TicketOpen 2 ∷ []
 
 abbrev pub upper_query : DssAsk
 upper_query = Asks.Query above
@@ -78,7 +78,7 @@ both_wait = in_progress (first_waits ∷ second_waits ∷ [])
 
 -- the attempt of job 2, where nothing is found
 abbrev pub upper_first : Entry
-upper_first = Enters.Pending 2 2 0 None []
+upper_first = Enters.Pending (record { job = 2; tag = 2; alternative = 0; previous = None; key = [] })
 
 abbrev pub upper_first_put : DssAsk
 upper_first_put = Asks.Put (flight_number 1 2) None (above ∷ []) [] Accepted (codes "http://uss1.test/a/2") (ticket_number 1 2)
@@ -91,7 +91,7 @@ abbrev pub newer_pair : OperationalIntent
 newer_pair = record other_pair { reference = record newer_reference { ovn = Some newer_ovn } }
 
 abbrev pub newer_keyed : Entry
-newer_keyed = Enters.Pending 1 1 0 None (newer_ovn ∷ [])
+newer_keyed = Enters.Pending (record { job = 1; tag = 1; alternative = 0; previous = None; key = newer_ovn ∷ [] })
 
 abbrev pub newer_keyed_put : DssAsk
 newer_keyed_put = Asks.Put flight None (volume ∷ []) (newer_ovn ∷ []) Accepted (codes "http://uss1.test/a/1") ticket
@@ -110,7 +110,7 @@ abbrev pub taken_asked : Round
 taken_asked = asking_for flight (round_with (taken ∷ []))
 
 abbrev pub taken_keyed : Entry
-taken_keyed = Enters.Pending 2 2 0 None (other_ovn ∷ [])
+taken_keyed = Enters.Pending (record { job = 2; tag = 2; alternative = 0; previous = None; key = other_ovn ∷ [] })
 
 abbrev pub taken_keyed_put : DssAsk
 taken_keyed_put = Asks.Put (flight_number 1 2) None (above ∷ []) (other_ovn ∷ []) Accepted (codes "http://uss1.test/a/2") (ticket_number 1 2)

@@ -53,7 +53,7 @@ pub fn a_flight_is_planned()
         (waits 1 put) }
     ensures landed { Does tried_book (waits 1 put) (replies_to 1 put (Replies.Landed the_reference [])) (Some recorded) [] planned nothing }
     ensures landed_owing { Does tried_book (waits 1 put) (replies_to 1 put (Replies.Landed the_reference (subscriber ∷ [])))
-        (Some (Enters.Held 1 1 ovn 1 (subscriber ∷ []))) [] planned nothing }
+        (Some (Enters.Held (record { job = 1; tag = 1; ovn = ovn; version = 1; owed = subscriber ∷ [] }))) [] planned nothing }
 {}
 
 /// A held flight is changed from what is held of it: the Put names that OVN. The flight's own reference is found and doesn't count.
@@ -114,16 +114,16 @@ pub fn a_flight_is_kept_apart()
         (and_heard other_pair (and_heard third_pair (waiting 1 (dss_call 1 both_keyed_put) both_asked))) }
     ensures found_again { Does ticket_book (waiting 1 (dss_call 1 query) (leaving_out other_reference.flight asked_round))
         (replies_to 1 query (Replies.Found (other_reference ∷ []))) None (Goes.Peer details_of_other ∷ []) Nothing asked_other }
-    ensures blocked { Does ticket_book asked_other (Comes.Peer details_of_other (Peers.Served in_the_way)) (Some (Enters.Done 1 conflict))
+    ensures blocked { Does ticket_book asked_other (Comes.Peer details_of_other (Peers.Served in_the_way)) (Some (Enters.Done (record { job = 1; end = conflict })))
         [] (Answer (Says.Conflict other_reference.flight other_reference.manager EqualForbidden)) (and_heard in_the_way nothing) }
     ensures overruled { Does ticket_book asked_other (Comes.Peer details_of_other (Peers.Served urgent_pair))
-        (Some (Enters.Done 1 (Ends.Conflict other_reference.flight other_reference.manager HigherStands))) []
+        (Some (Enters.Done (record { job = 1; end = Ends.Conflict other_reference.flight other_reference.manager HigherStands }))) []
         (Answer (Says.Conflict other_reference.flight other_reference.manager HigherStands)) (and_heard urgent_pair nothing) }
     ensures excepted { Does staying_book (waiting 3 (Goes.Peer details_of_urgent) asked_round)
         (Comes.Peer details_of_urgent (Peers.Served urgent_pair)) (Some staying) (calls 3 staying_put) Nothing
         (and_heard urgent_pair (waiting 3 (dss_call 3 staying_put) asked_round)) }
     ensures blocked_after_an_attempt { Does tried_book asked_other (Comes.Peer details_of_other (Peers.Served in_the_way))
-        (Some (Enters.Deciding 1 conflict)) (calls 1 ticket_remove) Nothing
+        (Some (Enters.Deciding (record { job = 1; end = conflict }))) (calls 1 ticket_remove) Nothing
         (and_heard in_the_way (waiting 1 (dss_call 1 ticket_remove) asked_round)) }
 {}
 
@@ -132,10 +132,10 @@ pub fn a_flight_is_kept_apart()
 /// refusal, and where its flight has another tag, or none, or shows no OVN.
 pub fn a_job_goes_on()
     ensures lacked { Does tried_book (waits 1 put) (replies_to 1 put missing) None (calls 1 query) Nothing (waits 1 query) }
-    ensures last_round { Does last_try_book (waits 1 put) (replies_to 1 put missing) (Some (Enters.Deciding 1 stale))
+    ensures last_round { Does last_try_book (waits 1 put) (replies_to 1 put missing) (Some (Enters.Deciding (record { job = 1; end = stale })))
         (calls 1 ticket_remove) Nothing (waits 1 ticket_remove) }
     ensures last_round_lacking_two { Does last_try_book (waits 1 put) (replies_to 1 put missing_two)
-        (Some (Enters.Deciding 1 (Ends.Stale (2 ∷ 3 ∷ [])))) (calls 1 ticket_remove) Nothing (waits 1 ticket_remove) }
+        (Some (Enters.Deciding (record { job = 1; end = Ends.Stale (2 ∷ 3 ∷ []) }))) (calls 1 ticket_remove) Nothing (waits 1 ticket_remove) }
     ensures there { Does tried_book (waits 1 put) (replies_to 1 put exists) None (calls 1 get) Nothing (waits 1 get) }
     ensures stale_ovn { Does tried_book (waits 1 put) (replies_to 1 put (refused Refusals.StaleOvn)) None (calls 1 get) Nothing
         (waits 1 get) }
@@ -179,7 +179,7 @@ pub fn a_job_gives_up()
     ensures gone { Does cancelled_book (waits 1 ticket_remove) (replies_to 1 ticket_remove (Replies.TicketRemoved the_ticket)) (Some done)
         [] (Answer Says.Cancelled) nothing }
     ensures gone_before { Does stale_book (waits 1 ticket_remove) (replies_to 1 ticket_remove (refused Refusals.Retired))
-        (Some (Enters.Done 1 stale)) [] (Answer (Says.Stale (2 ∷ []))) nothing }
+        (Some (Enters.Done (record { job = 1; end = stale }))) [] (Answer (Says.Stale (2 ∷ []))) nothing }
     ensures in_use { Does stale_book (waits 1 ticket_remove) (replies_to 1 ticket_remove (refused Refusals.TicketInUse)) None
         (calls 1 get) Nothing (waits 1 get) }
     ensures landed_after_all { Does stale_book (waits 1 get) (replies_to 1 get (Replies.Got the_reference)) (Some recorded) [] planned
@@ -202,13 +202,13 @@ pub fn a_request_is_cancelled()
     ensures held { Answers held_book nothing (Comes.Cancel 1 1) planned }
 {}
 
-/// A flight ends once its reference is gone, now or before; whoever subscribed to it is to be told.
+/// A flight ends once its reference is gone, now or before; whoever subscribed to it is to be notified.
 pub fn a_flight_ends()
     ensures asking { Does held_book nothing (Comes.Ask end_ask) (Some end_opened) (calls 2 remove) Nothing (waits 2 remove) }
     ensures gone { Does ending_book (waits 2 remove) (replies_to 2 remove (Replies.Removed the_reference [])) (Some end_done) []
         (Answer (Says.Ended flight)) nothing }
     ensures gone_owing { Does ending_book (waits 2 remove) (replies_to 2 remove (Replies.Removed the_reference (subscriber ∷ [])))
-        (Some (Enters.Done 2 (Ends.Ended (subscriber ∷ [])))) [] (Answer (Says.Ended flight)) nothing }
+        (Some (Enters.Done (record { job = 2; end = Ends.Ended (subscriber ∷ []) }))) [] (Answer (Says.Ended flight)) nothing }
     ensures gone_before { Does ending_book (waits 2 remove) (replies_to 2 remove (refused Refusals.Retired)) (Some end_done) []
         (Answer (Says.Ended flight)) nothing }
     ensures remove_refused { Does ending_book (waits 2 remove) (replies_to 2 remove (refused Refusals.StaleOvn)) None []
@@ -276,7 +276,7 @@ pub fn jobs_go_on_apart()
         (calls 2 upper_query) Nothing (in_progress (at 2 (Some (dss_call 2 upper_query)) found_other ∷ first_waits ∷ [])) }
     ensures call_of_the_other { Does both_book both_wait (replies_to 1 upper_query (Replies.Found [])) None (calls 1 put) Nothing
         both_wait }
-    ensures second_cancelled { Does both_book both_wait (Comes.Cancel 2 1) (Some (Enters.Done 2 Ends.Cancelled)) [] (Answer Says.Cancelled)
+    ensures second_cancelled { Does both_book both_wait (Comes.Cancel 2 1) (Some (Enters.Done (record { job = 2; end = Ends.Cancelled }))) [] (Answer Says.Cancelled)
         (in_progress (first_waits ∷ [])) }
 {}
 
@@ -309,7 +309,7 @@ pub fn a_job_chooses_its_alternative()
         (Some recorded) [] (Answer (Says.Planned flight 1 1 ovn 1)) nothing }
     ensures blocked_by_the_second_pair { Does ticket_book (and_heard other_pair (waiting 1 (Goes.Peer details_of_third) both_asked))
         (Comes.Peer details_of_third (Peers.Served third_in_the_way))
-        (Some (Enters.Done 1 (Ends.Conflict third_reference.flight third_reference.manager EqualForbidden))) []
+        (Some (Enters.Done (record { job = 1; end = Ends.Conflict third_reference.flight third_reference.manager EqualForbidden }))) []
         (Answer (Says.Conflict third_reference.flight third_reference.manager EqualForbidden))
         (and_heard other_pair (and_heard third_in_the_way nothing)) }
 {}

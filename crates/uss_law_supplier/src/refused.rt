@@ -62,7 +62,7 @@ pub fn requests_are_accepted_at_the_limits()
     ensures lasts { DoesAt after_end new_book nothing (asks 1 (plans 0 4 (lasting ∷ [])))
         (Some (opens_first after_end (plans 0 4 (lasting ∷ [])))) (calls 1 (ticket_round 1 later_volume)) Nothing
         (waits 1 (ticket_round 1 later_volume)) }
-    ensures last_with_room { Does (busy_book 62) nothing (Comes.Ask ask) (Some (Enters.Opened 63 now ask))
+    ensures last_with_room { Does (busy_book 62) nothing (Comes.Ask ask) (Some (Enters.Opened (record { job = 63; moment = now; ask = ask })))
         (calls 63 (ticket_round 63 volume)) Nothing (waits 63 (ticket_round 63 volume)) }
 {}
 
@@ -123,17 +123,17 @@ pub fn alternatives_are_refused()
 /// and of a plan alone.
 pub fn each_volume_is_looked_at()
     ensures lasts_off_nominal { DoesAt after_end flown_book nothing (asks 3 (straying_in outlasting))
-        (Some (Enters.Opened 3 after_end (record { flight = 1; number = 3; wish = straying_in outlasting })))
+        (Some (Enters.Opened (record { job = 3; moment = after_end; ask = record { flight = 1; number = 3; wish = straying_in outlasting } })))
         (calls 3 (ticket_round 3 later_volume)) Nothing (waits 3 (ticket_round 3 later_volume)) }
     ensures lasts_but_off_nominal { DoesAt after_end flown_book nothing (asks 3 (straying_in outlasted))
-        (Some (Enters.Opened 3 after_end (record { flight = 1; number = 3; wish = straying_in outlasted })))
+        (Some (Enters.Opened (record { job = 3; moment = after_end; ask = record { flight = 1; number = 3; wish = straying_in outlasted } })))
         (calls 3 (ticket_round 3 later_volume)) Nothing (waits 3 (ticket_round 3 later_volume)) }
     ensures over_off_nominal_too { RefusesAt after_both flown_book nothing (asks 3 (straying_in outlasting)) Why.Past }
     ensures over_second { RefusesAt after_end new_book nothing (asks 1 (plans 0 4 (lasting ∷ proposal ∷ []))) Why.Past }
     ensures far_off_nominal { Refuses flown_book (asks 3 (straying_in far_off_nominal)) (Why.TooFar last_end) }
     ensures far_second_volume { Refuses new_book (asks 1 (plans 0 4 (far_at_last ∷ []))) (Why.TooFar last_end) }
     ensures far_second_alternative { Refuses new_book (asks 1 (plans 0 4 (proposal ∷ far ∷ []))) (Why.TooFar last_end) }
-    ensures an_end_is_never_over { DoesAt after_both held_book nothing (Comes.Ask end_ask) (Some (Enters.Opened 2 after_both end_ask))
+    ensures an_end_is_never_over { DoesAt after_both held_book nothing (Comes.Ask end_ask) (Some (Enters.Opened (record { job = 2; moment = after_both; ask = end_ask })))
         (calls 2 remove) Nothing (waits 2 remove) }
 {}
 

@@ -24,17 +24,17 @@ pub fn a_flight_strays_and_is_lost()
     ensures inside { DoesAt first_seen flown_book nothing (Comes.Position (within 3)) None [] (Answer (Says.Steady Finds.Conforming))
         (seen (seen_inside first_seen ∷ [])) }
     ensures outside { DoesAt a_minute_later flown_book (seen (seen_inside first_seen ∷ [])) (Comes.Position (strays 3))
-        (Some (Enters.Opened 3 a_minute_later (straying 3))) (calls 3 (ticket_round 3 around_it)) Nothing
+        (Some (Enters.Opened (record { job = 3; moment = a_minute_later; ask = straying 3 }))) (calls 3 (ticket_round 3 around_it)) Nothing
         (and_seen (seen_inside first_seen ∷ seen_outside a_minute_later ∷ []) (waits 3 (ticket_round 3 around_it))) }
     ensures almost_a_minute { DoesAt just_before nonconforming_book (seen (seen_inside first_seen ∷ seen_outside a_minute_later ∷ []))
         (Comes.Position (strays 4)) None [] (Answer (Says.Steady Finds.Nonconforming))
         (seen (seen_inside first_seen ∷ seen_outside a_minute_later ∷ seen_outside just_before ∷ [])) }
     ensures a_minute { DoesAt two_minutes_later nonconforming_book (seen (seen_inside first_seen ∷ seen_outside a_minute_later ∷ []))
-        (Comes.Position (strays 4)) (Some (Enters.Opened 4 two_minutes_later (losing 4))) (calls 4 (ticket_round 4 around_it)) Nothing
+        (Comes.Position (strays 4)) (Some (Enters.Opened (record { job = 4; moment = two_minutes_later; ask = losing 4 }))) (calls 4 (ticket_round 4 around_it)) Nothing
         (and_seen (seen_inside first_seen ∷ seen_outside a_minute_later ∷ seen_outside two_minutes_later ∷ []) (waits 4 (ticket_round 4
         around_it))) }
     ensures lost_at_once { DoesAt two_minutes_later flown_book (seen (seen_outside a_minute_later ∷ [])) (Comes.Position (strays 3))
-        (Some (Enters.Opened 3 two_minutes_later (losing 3))) (calls 3 (ticket_round 3 around_it)) Nothing
+        (Some (Enters.Opened (record { job = 3; moment = two_minutes_later; ask = losing 3 }))) (calls 3 (ticket_round 3 around_it)) Nothing
         (and_seen (seen_outside a_minute_later ∷ seen_outside two_minutes_later ∷ []) (waits 3 (ticket_round 3 around_it))) }
 {}
 
@@ -42,13 +42,13 @@ pub fn a_flight_strays_and_is_lost()
 /// forgotten. One that was lost stays lost.
 pub fn a_flight_comes_back_or_is_lost()
     ensures back { DoesAt two_minutes_later nonconforming_book (seen (seen_outside a_minute_later ∷ [])) (Comes.Position (within 4))
-        (Some (Enters.Opened 4 two_minutes_later (returning 4))) (calls 4 (ticket_round 4 volume)) Nothing
+        (Some (Enters.Opened (record { job = 4; moment = two_minutes_later; ask = returning 4 }))) (calls 4 (ticket_round 4 volume)) Nothing
         (and_seen (seen_outside a_minute_later ∷ seen_inside two_minutes_later ∷ []) (waits 4 (ticket_round 4 volume))) }
     ensures out_again { DoesAt two_minutes_later nonconforming_book (seen (seen_outside first_seen ∷ seen_inside a_minute_later ∷ []))
         (Comes.Position (strays 4)) None [] (Answer (Says.Steady Finds.Nonconforming))
         (seen (seen_outside first_seen ∷ seen_inside a_minute_later ∷ seen_outside two_minutes_later ∷ [])) }
     ensures lost { DoesAt two_minutes_later nonconforming_book (seen (seen_outside first_seen ∷ seen_outside a_minute_later ∷ []))
-        (Comes.Position (within 4)) (Some (Enters.Opened 4 two_minutes_later (losing_inside 4))) (calls 4 (ticket_round 4 volume)) Nothing
+        (Comes.Position (within 4)) (Some (Enters.Opened (record { job = 4; moment = two_minutes_later; ask = losing_inside 4 }))) (calls 4 (ticket_round 4 volume)) Nothing
         (and_seen (seen_outside first_seen ∷ seen_outside a_minute_later ∷ seen_inside two_minutes_later ∷ []) (waits 4 (ticket_round 4
         volume))) }
     ensures nothing_left { DoesAt two_minutes_later contingent_book (seen (seen_outside first_seen ∷ seen_outside a_minute_later ∷ []))
@@ -61,16 +61,16 @@ pub fn a_flight_comes_back_or_is_lost()
 /// A change of state that a position asks for is at the priority that is held.
 pub fn a_straying_flight_keeps_its_priority()
     ensures strays { DoesAt first_seen prior_book nothing (Comes.Position (strays 3))
-        (Some (Enters.Opened 3 first_seen (at_five 3 Nonconforming 1 with_around))) (calls 3 (ticket_round 3 around_it)) Nothing
+        (Some (Enters.Opened (record { job = 3; moment = first_seen; ask = at_five 3 Nonconforming 1 with_around }))) (calls 3 (ticket_round 3 around_it)) Nothing
         (and_seen (seen_outside first_seen ∷ []) (waits 3 (ticket_round 3 around_it))) }
     ensures lost { DoesAt a_minute_later prior_book (seen (seen_outside first_seen ∷ [])) (Comes.Position (strays 3))
-        (Some (Enters.Opened 3 a_minute_later (at_five 3 Contingent 1 with_around))) (calls 3 (ticket_round 3 around_it)) Nothing
+        (Some (Enters.Opened (record { job = 3; moment = a_minute_later; ask = at_five 3 Contingent 1 with_around }))) (calls 3 (ticket_round 3 around_it)) Nothing
         (and_seen (seen_outside first_seen ∷ seen_outside a_minute_later ∷ []) (waits 3 (ticket_round 3 around_it))) }
     ensures lost_later { DoesAt a_minute_later prior_strayed_book (seen (seen_outside first_seen ∷ [])) (Comes.Position (strays 4))
-        (Some (Enters.Opened 4 a_minute_later (at_five 4 Contingent 1 with_around))) (calls 4 (ticket_round 4 around_it)) Nothing
+        (Some (Enters.Opened (record { job = 4; moment = a_minute_later; ask = at_five 4 Contingent 1 with_around }))) (calls 4 (ticket_round 4 around_it)) Nothing
         (and_seen (seen_outside first_seen ∷ seen_outside a_minute_later ∷ []) (waits 4 (ticket_round 4 around_it))) }
     ensures back { DoesAt a_minute_later prior_strayed_book (seen (seen_outside first_seen ∷ [])) (Comes.Position (within 4))
-        (Some (Enters.Opened 4 a_minute_later (at_five 4 Activated 4 proposal))) (calls 4 (ticket_round 4 volume)) Nothing
+        (Some (Enters.Opened (record { job = 4; moment = a_minute_later; ask = at_five 4 Activated 4 proposal }))) (calls 4 (ticket_round 4 volume)) Nothing
         (and_seen (seen_outside first_seen ∷ seen_inside a_minute_later ∷ []) (waits 4 (ticket_round 4 volume))) }
 {}
 

@@ -25,7 +25,7 @@ use Rattle.uss_wire_base.specs.Writing.{AllOf}
 use Rattle.uss_wire_words.specs.Volumes.{volume_at}
 use Rattle.uss_wire_words.specs.Texts.{ovn_at, state_at, identifier_at}
 use Rattle.uss_wire_words.specs.References.{front_at, back_at, joined, intent_reference_at}
-use Rattle.uss_wire_uss.specs.Intents.{volumes_at, details_at, accepted, timed, intent_of, intent_at, details_answer_at, told_at, notification_at}
+use Rattle.uss_wire_uss.specs.Intents.{volumes_at, details_at, accepted, timed, intent_of, intent_at, details_answer_at, notified_at, notification_at}
 use Rattle.uss_wire_uss.specs.Asks.{proposal_at, put_at, wish_by, wish_at, asks_at, positions_at}
 use Rattle.uss_wire_uss.specs.Writing.{ShowsOvn, IsReadable, IsReadableIfAny, IsReadableNote, IsReadableProposal, IsReadableWish}
 use Rattle.uss_law_wire.proofs.Yields.{Yields, after, behind, in_field, in_field_or, IfAny, in_optional, IsBelow, natural_small, in_list, in_one}
@@ -121,14 +121,14 @@ unfolding details_answer_at
 details_answer_given d = behind IsReadable (object_at Member.Whole d) _ (λ u. in_field IsReadable Member.OperationalIntent intent_at (intent_given Member.OperationalIntent) d)
 
 -- ---- notifications
-abbrev IsTold : ℕ × ℕ → Type 0
-IsTold told = told.0 < 2 ^ 128
+abbrev IsNotified : ℕ × ℕ → Type 0
+IsNotified notified = notified.0 < 2 ^ 128
 
-told_given : (place : Member) (d : Data) → Yields IsTold (told_at place d)
-unfolding told_at
-told_given place d =
-    behind IsTold (object_at place d) _ (λ u. after IsIdentifier IsTold (field Member.SubscriptionId identifier_at d) _ (in_field IsIdentifier Member.SubscriptionId identifier_at (identifier_given Member.SubscriptionId) d)
-    (λ (id : ℕ) ticket. behind IsTold (field Member.NotificationIndex natural_at d) _ (λ index. ticket)))
+notified_given : (place : Member) (d : Data) → Yields IsNotified (notified_at place d)
+unfolding notified_at
+notified_given place d =
+    behind IsNotified (object_at place d) _ (λ u. after IsIdentifier IsNotified (field Member.SubscriptionId identifier_at d) _ (in_field IsIdentifier Member.SubscriptionId identifier_at (identifier_given Member.SubscriptionId) d)
+    (λ (id : ℕ) ticket. behind IsNotified (field Member.NotificationIndex natural_at d) _ (λ index. ticket)))
 
 if_any : (o : Option OperationalIntent) → IfAny IsReadable o → IsReadableIfAny o
 if_any None h = tt
@@ -139,8 +139,8 @@ unfolding notification_at
 notification_given d =
     behind IsReadableNote (object_at Member.Whole d) _ (λ u. after IsIdentifier IsReadableNote (field Member.OperationalIntentId identifier_at d) _ (in_field IsIdentifier Member.OperationalIntentId identifier_at (identifier_given Member.OperationalIntentId) d)
     (λ (flight : ℕ) id. after (IfAny IsReadable) IsReadableNote (optional Member.OperationalIntent intent_at d) _ (in_optional IsReadable Member.OperationalIntent intent_at (intent_given Member.OperationalIntent) d)
-    (λ (pair : Option OperationalIntent) readable. after IsTold IsReadableNote (field Member.Subscriptions (one_at told_at) d) _ (in_field IsTold Member.Subscriptions (one_at told_at) (in_one IsTold Member.Subscriptions told_at (told_given Member.Subscriptions)) d)
-    (λ (told : ℕ × ℕ) ticket. record { flight = id; pair = if_any pair readable; ticket = ticket }))))
+    (λ (pair : Option OperationalIntent) readable. after IsNotified IsReadableNote (field Member.Subscriptions (one_at notified_at) d) _ (in_field IsNotified Member.Subscriptions (one_at notified_at) (in_one IsNotified Member.Subscriptions notified_at (notified_given Member.Subscriptions)) d)
+    (λ (notified : ℕ × ℕ) ticket. record { flight = id; pair = if_any pair readable; ticket = ticket }))))
 
 -- ---- requests and positions
 proposal_given : (place : Member) (d : Data) → Yields IsReadableProposal (proposal_at place d)

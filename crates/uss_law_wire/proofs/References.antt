@@ -16,7 +16,7 @@ use Rattle.uss_wire_base.specs.Writing.{AllOf}
 use Rattle.uss_wire_words.specs.Volumes.{time_at}
 use Rattle.uss_wire_words.specs.Texts.{name_of, base_of, ovn_of, name_at, base_at, ovn_at, state_at, identifier_at}
 use Rattle.uss_wire_words.specs.References.{no_ovn, dropped_ovn, ovn_for, front_at, back_at, joined, answered_reference_at, references_at}
-use Rattle.uss_wire_dss.specs.ChangesAndErrors.{flatten, told_at, told_by, subscriber_at, at_most_tickets, subscribers_at}
+use Rattle.uss_wire_dss.specs.ChangesAndErrors.{flatten, notified_at, notified_by, subscriber_at, at_most_tickets, subscribers_at}
 use Rattle.uss_wire_dss.specs.ReplyWriting.{ShowsOvn, IsReadable, IsReadableSubscriber}
 use Rattle.uss_law_wire.proofs.Identifiers.{identifier_small}
 use Rattle.uss_law_wire.proofs.Yields.{Yields, weaken, after, behind, tested, found, in_field, IfAny, in_optional, IsBelow, natural_small, in_list, FewOf, in_few}
@@ -53,7 +53,7 @@ identifier_given m d =
 
 -- ---- references
 
--- what the members before the OVN say of a reference, and those behind it
+-- what the members before the OVN say of a reference, and those after it
 pub record HasFront (r : Reference) : Type 0 where
   pub flight : r.flight < 2 ^ 128
   pub manager : IsName r.manager
@@ -65,7 +65,7 @@ pub record HasBack (r : Reference) : Type 0 where
   pub base : IsBase r.base
   pub ticket : r.ticket < 2 ^ 128
 
--- whatever stands behind the front, and before the back
+-- whatever stands after the prefix, and before the back
 abbrev pub KeepsFront : {F B : Type 0} → (F → Option (List ℕ) → B → Reference) → F → Type 0
 KeepsFront {F} {B} join f = (o : Option (List ℕ)) (b : B) → HasFront (join f o b)
 
@@ -101,7 +101,7 @@ ovn_with client manager d false other = behind (ShowsOvn client manager) (option
 ovn_for_given : (client manager : List ℕ) (d : Data) → Yields (ShowsOvn client manager) (ovn_for client manager d)
 ovn_for_given client manager d = ovn_with client manager d (bytes_eq manager client) refl
 
--- the OVN is one that this client is shown, whatever stands behind it
+-- the OVN is one that this client is shown, whatever stands after it
 abbrev ShownBy : {F B : Type 0} → (F → Option (List ℕ) → B → Reference) → List ℕ → F → Option (List ℕ) → Type 0
 ShownBy {F} {B} join client f o = (b : B) → ShowsOvn client (join f o b).manager o
 
@@ -117,26 +117,26 @@ pub references_given : (client : List ℕ) (m : Member) (d : Data) → Yields (F
 unfolding references_at
 references_given client m d = in_few (IsReadable client) most_references m (answered_reference_at client) (reference_given client m) d
 
--- ---- those that are to be told
+-- ---- those that are to be notified
 abbrev Tells : {T : Type 0} → (List ℕ → T → Subscriber) → T → Type 0
 Tells by t = (base : List ℕ) → IsBase base → IsReadableSubscriber (by base t)
 
-told_given : (place : Member) (d : Data) → Yields (Tells told_by) (told_at place d)
-unfolding told_at
-told_given place d =
-    behind (Tells told_by) (object_at place d) _ (λ u. after IsIdentifier (Tells told_by) (field Member.SubscriptionId identifier_at d) _ (in_field IsIdentifier Member.SubscriptionId identifier_at (identifier_given Member.SubscriptionId) d)
-    (λ (id : ℕ) ticket. behind (Tells told_by) (field Member.NotificationIndex natural_at d) _ (λ index. λ base url. record { base = url; ticket = ticket })))
+notified_given : (place : Member) (d : Data) → Yields (Tells notified_by) (notified_at place d)
+unfolding notified_at
+notified_given place d =
+    behind (Tells notified_by) (object_at place d) _ (λ u. after IsIdentifier (Tells notified_by) (field Member.SubscriptionId identifier_at d) _ (in_field IsIdentifier Member.SubscriptionId identifier_at (identifier_given Member.SubscriptionId) d)
+    (λ (id : ℕ) ticket. behind (Tells notified_by) (field Member.NotificationIndex natural_at d) _ (λ index. λ base url. record { base = url; ticket = ticket })))
 
-all_told : {T : Type 0} (by : List ℕ → T → Subscriber) (base : List ℕ) → IsBase base → (ts : List T) → AllOf (Tells by) ts → AllOf IsReadableSubscriber (map (by base) ts)
-all_told by base url [] all = tt
-all_told by base url (t ∷ ts) all = (all.0 base url, all_told by base url ts all.1)
+all_notified : {T : Type 0} (by : List ℕ → T → Subscriber) (base : List ℕ) → IsBase base → (ts : List T) → AllOf (Tells by) ts → AllOf IsReadableSubscriber (map (by base) ts)
+all_notified by base url [] all = tt
+all_notified by base url (t ∷ ts) all = (all.0 base url, all_notified by base url ts all.1)
 
 subscriber_given : (place : Member) (d : Data) → Yields (AllOf IsReadableSubscriber) (subscriber_at place d)
 unfolding subscriber_at
 subscriber_given place d =
-    behind (AllOf IsReadableSubscriber) (object_at place d) _ (λ u. after (AllOf (Tells told_by)) (AllOf IsReadableSubscriber) (field Member.Subscriptions (list_at told_at) d) _ (in_field (AllOf (Tells told_by)) Member.Subscriptions (list_at told_at) (in_list (Tells told_by) Member.Subscriptions told_at (told_given Member.Subscriptions)) d)
+    behind (AllOf IsReadableSubscriber) (object_at place d) _ (λ u. after (AllOf (Tells notified_by)) (AllOf IsReadableSubscriber) (field Member.Subscriptions (list_at notified_at) d) _ (in_field (AllOf (Tells notified_by)) Member.Subscriptions (list_at notified_at) (in_list (Tells notified_by) Member.Subscriptions notified_at (notified_given Member.Subscriptions)) d)
     (λ ts all. after IsBase (AllOf IsReadableSubscriber) (field Member.UssBaseUrl base_at d) _ (in_field IsBase Member.UssBaseUrl base_at (base_given Member.UssBaseUrl) d)
-    (λ (base : List ℕ) url. all_told told_by base url ts all)))
+    (λ (base : List ℕ) url. all_notified notified_by base url ts all)))
 
 both_lists : (P : Subscriber → Type 0) (xs ys : List Subscriber) → AllOf P xs → AllOf P ys → AllOf P (xs ++ ys)
 both_lists P [] ys h k = k

@@ -36,7 +36,7 @@ pub fn what_the_profile_refuses_comes_first()
 {}
 
 /// A list that is too long is refused whatever its items are, once what stands before it in the format was read. Nothing that stands
-/// behind it is looked at. A polygon's vertices and the volumes of details are counted behind their items, and aren't spoken of here.
+/// after it is looked at. A polygon's vertices and the volumes of details are counted after their items, and aren't spoken of here.
 /// The function does nothing.
 pub fn long_lists_are_refused_before_their_items()
     ensures key { (f : ℕ) (o : Option (List ℕ)) (b : List ℕ) (d : Data) (extents : List Volume4D) (items : Items) → data_of b ≡ Some d

@@ -32,8 +32,12 @@ use Rattle.uss_event.specs.declared.events.Event.TheVariants as Events
 use Rattle.uss_law_dss.specs.Lists.{Has}
 use Rattle.uss_law_dss.proofs.Lists.{has_append, has_push, has_map, list_any_has, has_filtered}
 use Rattle.uss_law_dss.proofs.Tests.{some_same, same_number, equal_number, either}
-use Rattle.uss_law_book.specs.Lists.{owner_of, Opening, Trial, Holding, Closing, openings, trials, holdings, endings}
-use Rattle.uss_law_book.specs.Readings.{holding, is_held, is_done, is_closed, is_ended, decision_of, trials_of, base_of}
+use Rattle.uss_event.specs.declared.entries.Opening.{Opening}
+use Rattle.uss_event.specs.declared.entries.Trial.{Trial}
+use Rattle.uss_event.specs.declared.entries.Holding.{Holding}
+use Rattle.uss_event.specs.declared.entries.Closing.{Closing}
+use Rattle.uss_law_book.specs.Lists.{owner_of, openings, trials, holdings, endings}
+use Rattle.uss_law_book.specs.Contents.{holding, is_held, is_done, is_closed, is_ended, decision_of, trials_of, current_ovn_of}
 use Rattle.uss_law_book.specs.Attempts.{Attempted, attempt_of, held, held_by, recorded_as}
 use Rattle.uss_law_book.specs.Legal.{IsLegal, IsDue, MayFollow, EndsFlight, EndsWish}
 use Rattle.uss_law_book.specs.Orderly.{IsOrderly}
@@ -69,9 +73,9 @@ pub record IsNoted (w : World) (note : Note) : Type 0 where
   pub from : ℕ
   pub to : Option ℕ
   pub job : ℕ
-  pub place : ℕ
+  pub index : ℕ
   pub base : List ℕ
-  pub sent : Has w.posts (Asked from to (Calls.Notify job place base note))
+  pub sent : Has w.posts (Asked from to (Calls.Notify job index base note))
 
 abbrev pub Comes : World → ℕ → Event → Type 0
 Comes w s (Events.Dss call reply) = (k : ℕ) × Has w.posts (Replied s k call reply)
@@ -202,7 +206,7 @@ module _ (table : List ℕ) (owners : List Owner) (w : World) (names : AreSuppli
 
       go : (e : Event) → Has (brought e) (Heard p) → Comes w s e → IsPairLanded w p
       go (Events.Peer call reply) h k = by_serving call reply h k
-      go (Events.Notified client note) h k = j.notes k.from k.to k.job k.place k.base note p k.sent (by_note note.flight note.pair h)
+      go (Events.Notified client note) h k = j.notes k.from k.to k.job k.index k.base note p k.sent (by_note note.flight note.pair h)
       go _ h k = absurd h
 
   heard_made : (p : OperationalIntent) → Has (heard_of s w ++ brought a.event) (Heard p) → IsPairLanded w p
@@ -233,8 +237,8 @@ module _ (table : List ℕ) (owners : List Owner) (w : World) (names : AreSuppli
       subst (λ z. HasLanding w s z ovn version) (tag_shown h.reference tag ovn h.tag_is h.ovn_is) (subst (λ z. HasLanding w s (tag_in h.reference) ovn z) h.version_is n)
 
   new_held : (e : Entry) → HeldIsShown m.acts.owner book a.event e → (h : Holding) → Has (holdings (e ∷ [])) h → HasLanding w s h.tag h.ovn h.version
-  new_held (Enters.Held job tag ovn version owed) d h (inl q) = subst (λ (z : Holding). HasLanding w s z.tag z.ovn z.version) q (held_landing job tag ovn version d)
-  new_held (Enters.Held job tag ovn version owed) d h (inr n) = absurd n
+  new_held (Enters.Held holding) d h (inl q) = subst (λ (z : Holding). HasLanding w s z.tag z.ovn z.version) q (held_landing holding.job holding.tag holding.ovn holding.version d)
+  new_held (Enters.Held holding) d h (inr n) = absurd n
   new_held _ d h n = absurd n
 
   held_after : (h : Holding) → Has (holdings after) h → Has (holdings book) h ⊎ HasLanding w s h.tag h.ovn h.version
@@ -321,7 +325,7 @@ module _ (table : List ℕ) (owners : List Owner) (w : World) (names : AreSuppli
         let r : RecordsAreDue m.acts.owner after call.job call.ask = subst (OfDss (RecordsAreDue m.acts.owner after)) y.1 (m.acts.records x.0 x.1) in
         let q : RemovalsAreDue m.acts.owner after call.job call.ask = subst (OfDss (RemovalsAreDue m.acts.owner after)) y.1 (m.acts.ticket_removals x.0 x.1) in
         subst (λ z. CallFrom v z call.job call.ask) y.0 (call_due call.job call.ask r q))
-    | inr told ↦ (let x = answered a.asker c.said (Called k call) told in let e = x.3 in cc)
+    | inr notifying ↦ (let x = answered a.asker c.said (Called k call) notifying in let e = x.3 in cc)
   ]
 
   owned_after : (entry : Option Entry) → owner_of (book_after book entry) ≡ Some m.acts.owner
@@ -344,13 +348,13 @@ module _ (table : List ℕ) (owners : List Owner) (w : World) (names : AreSuppli
           tickets = subst (OfDss (TicketsAreDue m.acts.owner after)) y.1 (m.acts.ticket_calls x.0 x.1);
           ticket_removals = subst (OfDss (RemovalsAreDue m.acts.owner after)) y.1 (m.acts.ticket_removals x.0 x.1);
         }))
-    | inr told ↦ (let x = answered a.asker c.said (Called k call) told in let e = x.3 in cc)
+    | inr notifying ↦ (let x = answered a.asker c.said (Called k call) notifying in let e = x.3 in cc)
   ]
 
   no_reply : {P : Type 0} (k n : ℕ) (call : DssCall) (reply : DssReply) → Has posts (Replied k n call reply) → P
   no_reply k n call reply h = elim (has_append (map (post_of w.suppliers s) c.sends) (answer_to a.asker c.said) (Replied k n call reply) (sub (Replied k n call reply) h)) [
     | inl sent ↦ (let x = has_map (post_of w.suppliers s) c.sends (Replied k n call reply) sent in sent_reply w.suppliers s x.0 k n call reply x.2)
-    | inr told ↦ (let x = answered a.asker c.said (Replied k n call reply) told in let e = x.3 in cc)
+    | inr notifying ↦ (let x = answered a.asker c.said (Replied k n call reply) notifying in let e = x.3 in cc)
   ]
 
   served_is : (f n k i : ℕ) (call call' : PeerCall) (x y : PeerReply) → Answered f n call x ≡ Answered k i call' y → x ≡ y
@@ -359,8 +363,8 @@ module _ (table : List ℕ) (owners : List Owner) (w : World) (names : AreSuppli
   new_served : (k n : ℕ) (call : PeerCall) (p : OperationalIntent) → Has posts (Answered k n call (Peers.Served p)) → IsPairLanded v p
   new_served k n call p h = elim (has_append (map (post_of w.suppliers s) c.sends) (answer_to a.asker c.said) (Answered k n call (Peers.Served p)) (sub (Answered k n call (Peers.Served p)) h)) [
     | inl sent ↦ (let x = has_map (post_of w.suppliers s) c.sends (Answered k n call (Peers.Served p)) sent in sent_answer w.suppliers s x.0 k n call (Peers.Served p) x.2)
-    | inr told ↦ (
-        let x = answered a.asker c.said (Answered k n call (Peers.Served p)) told in
+    | inr notifying ↦ (
+        let x = answered a.asker c.said (Answered k n call (Peers.Served p)) notifying in
         let e : x.1 ≡ Peers.Served p = served_is x.0.from x.0.number k n x.0.call call x.1 (Peers.Served p) x.3 in
         let f : c.said ≡ Says.Pair (Some p) = served_said c.said p (x.2 ∙ ap Some e) in
         let g : PairIsHeld after (Says.Pair (Some p)) = subst (PairIsHeld after) f m.acts.pair in
@@ -373,15 +377,15 @@ module _ (table : List ℕ) (owners : List Owner) (w : World) (names : AreSuppli
       let h : PairIsHeld after (Says.Pair (Some p)) = subst (PairIsHeld after) g m.acts.pair in
       pair_after p h
 
-  new_note : (k : ℕ) (to : Option ℕ) (job place : ℕ) (base : List ℕ) (note : Note) (p : OperationalIntent) → Has posts (Asked k to (Calls.Notify job place base note)) → note.pair ≡ Some p → IsPairLanded v p
-  new_note k to job place base note p h e = elim (has_append (map (post_of w.suppliers s) c.sends) (answer_to a.asker c.said) (Asked k to (Calls.Notify job place base note)) (sub (Asked k to (Calls.Notify job place base note)) h)) [
+  new_note : (k : ℕ) (to : Option ℕ) (job index : ℕ) (base : List ℕ) (note : Note) (p : OperationalIntent) → Has posts (Asked k to (Calls.Notify job index base note)) → note.pair ≡ Some p → IsPairLanded v p
+  new_note k to job index base note p h e = elim (has_append (map (post_of w.suppliers s) c.sends) (answer_to a.asker c.said) (Asked k to (Calls.Notify job index base note)) (sub (Asked k to (Calls.Notify job index base note)) h)) [
     | inl sent ↦ (
-        let x = has_map (post_of w.suppliers s) c.sends (Asked k to (Calls.Notify job place base note)) sent in
-        let y = sent_peer w.suppliers s x.0 k to (Calls.Notify job place base note) x.2 in
+        let x = has_map (post_of w.suppliers s) c.sends (Asked k to (Calls.Notify job index base note)) sent in
+        let y = sent_peer w.suppliers s x.0 k to (Calls.Notify job index base note) x.2 in
         let r : IfSome note.pair (IsHeldPair after) = subst (OfPeer (NotesAreHeld after)) y.1 (m.acts.notes x.0 x.1) in
         let q : IsHeldPair after p = subst (λ (z : Option OperationalIntent). IfSome z (IsHeldPair after)) e r in
         pair_after p q)
-    | inr told ↦ (let x = answered a.asker c.said (Asked k to (Calls.Notify job place base note)) told in let f = x.3 in cc)
+    | inr notifying ↦ (let x = answered a.asker c.said (Asked k to (Calls.Notify job index base note)) notifying in let f = x.3 in cc)
   ]
 
   -- what is heard
@@ -394,12 +398,12 @@ module _ (table : List ℕ) (owners : List Owner) (w : World) (names : AreSuppli
   -- a new attempt's key is clear
   new_clear : (e : Entry) → KeyIsClear m.acts.owner book (heard_of s w) a.event e → IsDue book e → (t : Trial) → Has (trials (e ∷ [])) t → (tag : ℕ) (x : Attempted) → t.tag ≡ tag → attempt_of tag (book ++ e ∷ []) ≡ Some x
       → x.key ≡ t.key → x.previous ≡ t.previous → is_strategic x.state ≡ true → (o : List ℕ) → Has x.key o → IsClearOfPair table v x o
-  new_clear (Enters.Pending job tag' alternative previous key) k d t (inl q) tag x n f key_is previous_is strategic o h =
-      let i : attempt_of tag' (book ++ Enters.Pending job tag' alternative previous key ∷ []) ≡ Some x =
-      subst (λ z. attempt_of z (book ++ Enters.Pending job tag' alternative previous key ∷ []) ≡ Some x) (sym n ∙ ap (λ (z : Trial). z.tag) (sym q)) f in
-      let h' : Has key o = subst (λ (z : List (List ℕ)). Has z o) (key_is ∙ ap (λ (z : Trial). z.key) (sym q)) h in
+  new_clear (Enters.Pending trial) k d t (inl q) tag x n f key_is previous_is strategic o h =
+      let i : attempt_of trial.tag (book ++ Enters.Pending trial ∷ []) ≡ Some x =
+      subst (λ z. attempt_of z (book ++ Enters.Pending trial ∷ []) ≡ Some x) (sym n ∙ ap (λ (z : Trial). z.tag) (sym q)) f in
+      let h' : Has trial.key o = subst (λ (z : List (List ℕ)). Has z o) (key_is ∙ ap (λ (z : Trial). z.key) (sym q)) h in
       let y = k x i strategic d.opening d.unfinished.opened o h' in
-      let p : x.previous ≡ base_of d.opening.ask.flight book = previous_is ∙ (ap (λ (z : Trial). z.previous) (sym q) ∙ d.base) in
+      let p : x.previous ≡ current_ovn_of d.opening.ask.flight book = previous_is ∙ (ap (λ (z : Trial). z.previous) (sym q) ∙ d.current) in
       let b = base_is book d.opening.ask.flight orderly in
       let tb : m.acts.owner.table ≡ table = ap (λ (z : Owner). z.table) owner_is ∙ names.one_table own.0.owner st.one in
       record {
@@ -419,7 +423,7 @@ module _ (table : List ℕ) (owners : List Owner) (w : World) (names : AreSuppli
       held_before : (z : Option OperationalIntent) (flight : ℕ) → held flight book ≡ z → IfSome z (IsPairLanded v)
       held_before None flight e = tt
       held_before (Some p) flight e = made grows p (pair_before p (record { flight = flight; is = e }))
-  new_clear (Enters.Pending job tag' alternative previous key) k d t (inr z) tag x n f key_is previous_is strategic o h = absurd z
+  new_clear (Enters.Pending trial) k d t (inr z) tag x n f key_is previous_is strategic o h = absurd z
   new_clear _ k d t z tag x n f key_is previous_is strategic o h = absurd z
 
   attempt_after : (tag : ℕ) (x : Attempted) → attempt_of tag after ≡ Some x → (attempt_of tag book ≡ Some x) ⊎ (is_strategic x.state ≡ true → (o : List ℕ) → Has x.key o → IsClearOfPair table v x o)
@@ -479,12 +483,12 @@ module _ (table : List ℕ) (owners : List Owner) (w : World) (names : AreSuppli
   ends_or_not (Ends.Ended owed) h e = cc
 
   lands_nothing : (job : ℕ) (end : Ending) (wish : Wish) → EndsWish book job end wish → EndsAs m.acts.owner book a.event job end → is_ended end ≡ false
-      → IsUntried (book ++ Enters.Done job end ∷ []) job ⊎ (is_one_of (ticket_number s job) w.service.retired_tickets ≡ true)
+      → IsUntried (book ++ Enters.Done (record { job = job; end = end }) ∷ []) job ⊎ (is_one_of (ticket_number s job) w.service.retired_tickets ≡ true)
   unfolding trials_of
   lands_nothing job end (Wishes.Put to priority rounds proposals) (inl decided) r e =
       let some : is_some (decision_of job book) ≡ true = ap is_some decided in
       inr (lose_ticket job (r.1 some))
-  lands_nothing job end (Wishes.Put to priority rounds proposals) (inr u) r e = inl (λ t h q. elim (which_trial book (Enters.Done job end ∷ []) t h) [
+  lands_nothing job end (Wishes.Put to priority rounds proposals) (inr u) r e = inl (λ t h q. elim (which_trial book (Enters.Done (record { job = job; end = end }) ∷ []) t h) [
     | inl old ↦ (let k : Has (trials_of job book) t = has_filtered (λ (z : Trial). z.job == job) (trials book) t old (equal_number t.job job q) in subst (λ (l : List Trial). Has l t) u.0 k)
     | inr new ↦ new
   ])
@@ -495,9 +499,9 @@ module _ (table : List ℕ) (owners : List Owner) (w : World) (names : AreSuppli
     pub nothing : is_ended d.end ≡ false → IsUntried (book ++ entry ∷ []) d.job ⊎ (is_one_of (ticket_number s d.job) w.service.retired_tickets ≡ true)
 
   end_shows : (e : Entry) → RemovalIsShown m.acts.owner book a.event e → MayFollow book e → (d : Closing) → Has (endings (e ∷ [])) d → EndShows e d
-  end_shows (Enters.Done job end) r l d (inl q) =
-      subst (EndShows (Enters.Done job end)) q (record { ends = λ e. end_flight job (r.0 e); nothing = λ e. lands_nothing job end l.due.opening.ask.wish l.due.wish r e })
-  end_shows (Enters.Done job end) r l d (inr n) = absurd n
+  end_shows (Enters.Done ending) r l d (inl q) =
+      subst (EndShows (Enters.Done ending)) q (record { ends = λ e. end_flight ending.job (r.0 e); nothing = λ e. lands_nothing ending.job ending.end l.due.opening.ask.wish l.due.wish r e })
+  end_shows (Enters.Done ending) r l d (inr n) = absurd n
   end_shows _ r l d h = absurd h
 
   ending_after : (d : Closing) → Has (endings after) d → Has (endings book) d ⊎ EndingShows v s d
@@ -551,7 +555,7 @@ module _ (table : List ℕ) (owners : List Owner) (w : World) (names : AreSuppli
         replies = λ k n call reply h. elim (has_append w.posts posts (Replied k n call reply) h) [ inl old ↦ inl old | inr new ↦ no_reply k n call reply new ];
         said = λ x p h e. elim (has_push w.sayings (saying_of a c after) x h) [ inl old ↦ inl old | inr f ↦ inr (new_said x p f e) ];
         served = λ k n call p h. elim (has_append w.posts posts (Answered k n call (Peers.Served p)) h) [ inl old ↦ inl old | inr new ↦ inr (new_served k n call p new) ];
-        notes = λ k to job place base note p h e. elim (has_append w.posts posts (Asked k to (Calls.Notify job place base note)) h) [ inl old ↦ inl old | inr new ↦ inr (new_note k to job place base note p new e) ];
+        notes = λ k to job index base note p h e. elim (has_append w.posts posts (Asked k to (Calls.Notify job index base note)) h) [ inl old ↦ inl old | inr new ↦ inr (new_note k to job index base note p new e) ];
         heard = λ k p. each k (λ b h. Has h (Heard p) → Has (heard_of k w) (Heard p) ⊎ IsPairLanded v p) (λ e h. inr (made grows p (new_heard p h))) (λ h. inl h);
         entered = λ k h. each k (λ b z. Has (holdings b) h → Has (holdings (book_of k w)) h ⊎ HasLanding v k h.tag h.ovn h.version) (λ e i. inr (subst (λ z. HasLanding v z h.tag h.ovn h.version) (sym e) (landed_after h i))) (λ i. inl i);
         keys = λ k tag x. each k (λ b z. attempt_of tag b ≡ Some x → (attempt_of tag (book_of k w) ≡ Some x) ⊎ (is_strategic x.state ≡ true → (o : List ℕ) → Has x.key o → IsClearOfPair table v x o)) (λ e f. keys_at k tag x e f) (λ f. inl f);

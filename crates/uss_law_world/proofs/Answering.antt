@@ -11,8 +11,12 @@ use Rattle.uss_event.specs.declared.events.Event.TheVariants as Events
 use Rattle.uss_law_dss.specs.Lists.{Has}
 use Rattle.uss_law_dss.proofs.Lists.{find_has}
 use Rattle.uss_law_dss.proofs.Tests.{some_same, same_number, both}
-use Rattle.uss_law_book.specs.Lists.{Opening, Trial, Holding, Closing, openings, holdings, endings}
-use Rattle.uss_law_book.specs.Readings.{opening_of, trial_of, holding_of, ending_of}
+use Rattle.uss_event.specs.declared.entries.Opening.{Opening}
+use Rattle.uss_event.specs.declared.entries.Trial.{Trial}
+use Rattle.uss_event.specs.declared.entries.Holding.{Holding}
+use Rattle.uss_event.specs.declared.entries.Closing.{Closing}
+use Rattle.uss_law_book.specs.Lists.{openings, holdings, endings}
+use Rattle.uss_law_book.specs.Contents.{opening_of, trial_of, holding_of, ending_of}
 use Rattle.uss_law_book.proofs.Kept.{opening_has}
 use Rattle.uss_law_duty.specs.Answers.{by_trial, by_end, by_close, kept_answer, job_of_request, job_of_call, job_named}
 use Rattle.uss_law_duty.specs.Sayings.{FinalIsKept}

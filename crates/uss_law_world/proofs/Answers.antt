@@ -16,8 +16,11 @@ use Rattle.uss_event.specs.declared.steps.Stopped.TheVariants as Turns
 use Rattle.uss_law_dss.specs.Lists.{Has}
 use Rattle.uss_law_dss.proofs.Lists.{has_left, find_has}
 use Rattle.uss_law_dss.proofs.Tests.{some_same, both, and_true, same_number, equal_number}
-use Rattle.uss_law_book.specs.Lists.{Opening, Trial, Holding, openings, trials, holdings}
-use Rattle.uss_law_book.specs.Readings.{is_ended}
+use Rattle.uss_event.specs.declared.entries.Opening.{Opening}
+use Rattle.uss_event.specs.declared.entries.Trial.{Trial}
+use Rattle.uss_event.specs.declared.entries.Holding.{Holding}
+use Rattle.uss_law_book.specs.Lists.{openings, trials, holdings}
+use Rattle.uss_law_book.specs.Contents.{is_ended}
 use Rattle.uss_law_book.specs.Orderly.{IsOrderly}
 use Rattle.uss_law_book.proofs.Finds.{find_found}
 use Rattle.uss_law_book.proofs.Attempts.{trial_has}

@@ -17,8 +17,12 @@ use Rattle.uss_law_dss.proofs.Lists.{list_any_has}
 use Rattle.uss_law_dss.proofs.Tests.{same_number, some_same, not_both, either}
 use Rattle.uss_law_dss.proofs.History.{last_has}
 use Rattle.uss_law_dss.proofs.EachOrderly.{one_landing}
-use Rattle.uss_law_book.specs.Lists.{Opening, Trial, Holding, Closing, openings, trials, holdings, endings}
-use Rattle.uss_law_book.specs.Readings.{is_held, is_done, is_closed, is_ended, has_ended, last_holding, holding, open_job_of}
+use Rattle.uss_event.specs.declared.entries.Opening.{Opening}
+use Rattle.uss_event.specs.declared.entries.Trial.{Trial}
+use Rattle.uss_event.specs.declared.entries.Holding.{Holding}
+use Rattle.uss_event.specs.declared.entries.Closing.{Closing}
+use Rattle.uss_law_book.specs.Lists.{openings, trials, holdings, endings}
+use Rattle.uss_law_book.specs.Contents.{is_held, is_done, is_closed, is_ended, has_ended, last_holding, holding, open_job_of}
 use Rattle.uss_law_book.specs.Attempts.{Attempted, attempt_of, extents_of, recorded_as, held, held_by, by_wish}
 use Rattle.uss_law_book.specs.Orderly.{IsOrderly}
 use Rattle.uss_law_book.proofs.Attempts.{parts, trial_has}

@@ -13,8 +13,12 @@ use Rattle.uss_event.specs.declared.entries.Entry.TheVariants.{Opened, Held, Don
 use Rattle.uss_law_dss.specs.Lists.{Has}
 use Rattle.uss_law_dss.proofs.Lists.{has_left, any_true, list_any_has}
 use Rattle.uss_law_dss.proofs.Tests.{same_number, equal_number, both, and_true, not_both, some_same}
-use Rattle.uss_law_book.specs.Lists.{Opening, Trial, Holding, Closing, openings, trials, holdings, endings}
-use Rattle.uss_law_book.specs.Readings.{opening_of, is_closed, is_for, is_job_of, is_ended, has_ended, holdings_of, last_holding, holding, base_of}
+use Rattle.uss_event.specs.declared.entries.Opening.{Opening}
+use Rattle.uss_event.specs.declared.entries.Trial.{Trial}
+use Rattle.uss_event.specs.declared.entries.Holding.{Holding}
+use Rattle.uss_event.specs.declared.entries.Closing.{Closing}
+use Rattle.uss_law_book.specs.Lists.{openings, trials, holdings, endings}
+use Rattle.uss_law_book.specs.Contents.{opening_of, is_closed, is_for, is_job_of, is_ended, has_ended, holdings_of, last_holding, holding, current_ovn_of}
 use Rattle.uss_law_book.specs.Coding.{HasCoding}
 use Rattle.uss_law_book.specs.Legal.{EndsFlight, EndsWish, IsDue, MayFollow, MayAllFollow, IsLegal}
 use Rattle.uss_law_book.specs.Orderly.{IsOrderly}
@@ -109,11 +113,11 @@ closed_still : (book : List Entry) (e : Entry) (job : ℕ) → is_closed job boo
 closed_still book e job h = closed_by_either job book (e ∷ []) ∙ rw h refl
 
 fits_new : (e : Entry) (o : Opening) → HasCoding e → Has (openings (e ∷ [])) o → (o.job < 2 ^ 64) × (o.ask.flight < 2 ^ 64)
-fits_new (Opened job moment ask) o c (inl q) = subst (λ (x : Opening). (x.job < 2 ^ 64) × (x.ask.flight < 2 ^ 64)) q (c.0, c.2.flight)
-fits_new (Opened job moment ask) o c (inr n) = absurd n
+fits_new (Opened opening) o c (inl q) = subst (λ (x : Opening). (x.job < 2 ^ 64) × (x.ask.flight < 2 ^ 64)) q (c.0, c.2.flight)
+fits_new (Opened opening) o c (inr n) = absurd n
 fits_new _ o c h = absurd h
 
-pub based : (book : List Entry) (flight : ℕ) (ovn : List ℕ) → base_of flight book ≡ Some ovn → (h : Holding) × Has (holdings book) h × (h.ovn ≡ ovn)
+pub based : (book : List Entry) (flight : ℕ) (ovn : List ℕ) → current_ovn_of flight book ≡ Some ovn → (h : Holding) × Has (holdings book) h × (h.ovn ≡ ovn)
 based book flight ovn e = go (holding flight book) refl e
   where
     go : (x : Option Holding) → holding flight book ≡ x → option_map (λ (h : Holding). h.ovn) x ≡ Some ovn → (h : Holding) × Has (holdings book) h × (h.ovn ≡ ovn)
@@ -132,8 +136,8 @@ based_after book e f d t ovn h q = elim (which_trial book (e ∷ []) t h) [
 
 -- a new job is of a flight that hasn't ended
 alive_before : (book : List Entry) (e : Entry) (o : Opening) → IsDue book e → Has (openings (e ∷ [])) o → has_ended o.ask.flight book ≡ false
-alive_before book (Opened job moment ask) o d (inl q) = subst (λ (x : Opening). has_ended x.ask.flight book ≡ false) q d.alive
-alive_before book (Opened job moment ask) o d (inr n) = absurd n
+alive_before book (Opened opening) o d (inl q) = subst (λ (x : Opening). has_ended x.ask.flight book ≡ false) q d.alive
+alive_before book (Opened opening) o d (inr n) = absurd n
 alive_before book _ o d h = absurd h
 
 -- a job that was opened before, in the longer book
@@ -141,7 +145,7 @@ old_opening : (book : List Entry) (e : Entry) (p : Opening) (job : ℕ) → IsOr
 old_opening book e p job s q h e' k f = s.jobs q p (opening_stays book (e ∷ []) q h) k (e' ∙ sym f)
 
 not_opened_and_ended : (e : Entry) (o : Opening) (d : Closing) → Has (openings (e ∷ [])) o → Has (endings (e ∷ [])) d → ⊥
-not_opened_and_ended (Opened job moment ask) o d h k = absurd k
+not_opened_and_ended (Opened opening) o d h k = absurd k
 not_opened_and_ended _ o d h k = absurd h
 
 ended_old : (book : List Entry) (e : Entry) → IsOrderly book → BookFacts book → IsDue book e → (d : Closing) (p o : Opening) → Has (endings book) d → is_ended d.end ≡ true
@@ -190,7 +194,7 @@ ended_after book e s v f due d p o h i k q m n = elim (which_ending book (e ∷ 
 
 -- what an entry records, if it does
 one_or_none : (e : Entry) → (holdings (e ∷ []) ≡ []) ⊎ ((k : Holding) × (holdings (e ∷ []) ≡ k ∷ []))
-one_or_none (Held job tag ovn version owed) = inr (record { job = job; tag = tag; ovn = ovn; version = version; owed = owed }, refl)
+one_or_none (Held h) = inr (h, refl)
 one_or_none _ = inl refl
 
 holdings_after : (book : List Entry) (e : Entry) (flight : ℕ) → IsOrderly book
@@ -242,15 +246,15 @@ follows book e k h flight s v f due new there j last =
     let g : q.0.ask.flight ≡ flight = ap (λ (z : Opening). z.ask.flight) same ∙ p.3 in
     let u : is_closed q.0.job book ≡ false = subst (λ z. is_closed z book ≡ false) (sym i.1) q.2 in
     let a : has_ended flight book ≡ false = subst (λ z. has_ended z book ≡ false) g (alive book q.0 f i.0 u) in
-    let b : t.0.previous ≡ base_of q.0.ask.flight book = s.based t.0 q.0 t.1 i.0 (i.1 ∙ sym t.2) u in
-    let c : base_of flight book ≡ Some h.ovn = rw (a, last) refl in
+    let b : t.0.previous ≡ current_ovn_of q.0.ask.flight book = s.based t.0 q.0 t.1 i.0 (i.1 ∙ sym t.2) u in
+    let c : current_ovn_of flight book ≡ Some h.ovn = rw (a, last) refl in
     record {
       trial = t.0;
       next = k;
       tried = trial_stays book (e ∷ []) t.0 t.1;
       entered = there;
       tag = t.3;
-      previous = b ∙ ap (λ z. base_of z book) g ∙ c;
+      previous = b ∙ ap (λ z. current_ovn_of z book) g ∙ c;
     }
 
 pushed : {X : Type 0} (xs ys : List X) (x : X) → ys ≡ x ∷ [] → Has (xs ++ ys) x
@@ -279,8 +283,8 @@ followed_new book e h o s v new k q =
     ∙ last_pushed None (holdings_of o.ask.flight book) h
   where
     single : (x : Entry) (h : Holding) → Has (holdings (x ∷ [])) h → holdings (x ∷ []) ≡ h ∷ []
-    single (Held job tag ovn version owed) h (inl r) = ap (λ (z : Holding). z ∷ []) r
-    single (Held job tag ovn version owed) h (inr n) = absurd n
+    single (Held holding) h (inl r) = ap (λ (z : Holding). z ∷ []) r
+    single (Held holding) h (inr n) = absurd n
     single _ h n = absurd n
 
 followed_after : (book : List Entry) (e : Entry) → IsOrderly book → IsOrderly (book ++ e ∷ []) → BookFacts book → IsDue book e → (h : Holding) (o : Opening) → Has (holdings (book ++ e ∷ [])) h
@@ -297,7 +301,7 @@ followed_after book e s v f due h o k m q = elim (which_holding book (e ∷ []) 
 ]
 
 opens_one : (e : Entry) → (openings (e ∷ []) ≡ []) ⊎ ((o : Opening) × (openings (e ∷ []) ≡ o ∷ []))
-opens_one (Opened job moment ask) = inr (record { job = job; moment = moment; ask = ask }, refl)
+opens_one (Opened o) = inr (o, refl)
 opens_one _ = inl refl
 
 once_after : (book : List Entry) (e : Entry) → BookFacts book → IsDue book e → (flight number : ℕ) → length (filter (is_request flight number) (openings (book ++ e ∷ []))) ≤ 1
@@ -352,13 +356,13 @@ by_end_wish book job end End h e = ends_flight end h
 
 new_ends : (book : List Entry) (e : Entry) (d : Closing) (o : Opening) → IsOrderly (book ++ e ∷ []) → IsDue book e → Has (endings (e ∷ [])) d → Has (openings (book ++ e ∷ [])) o → o.job ≡ d.job → o.ask.wish ≡ End
     → is_ended d.end ≡ true
-new_ends book (Done job end) d o v due (inl q) k f w =
-    let i = opening_has book job due.opening due.opened in
-    let g : o.job ≡ job = f ∙ ap (λ (z : Closing). z.job) (sym q) in
-    let same : due.opening ≡ o = old_opening book (Done job end) o job v due.opening i.0 i.1 k g in
+new_ends book (Done ending) d o v due (inl q) k f w =
+    let i = opening_has book ending.job due.opening due.opened in
+    let g : o.job ≡ ending.job = f ∙ ap (λ (z : Closing). z.job) (sym q) in
+    let same : due.opening ≡ o = old_opening book (Done ending) o ending.job v due.opening i.0 i.1 k g in
     let x : due.opening.ask.wish ≡ End = ap (λ (z : Opening). z.ask.wish) same ∙ w in
-    subst (λ (z : Closing). is_ended z.end ≡ true) q (by_end_wish book job end due.opening.ask.wish due.wish x)
-new_ends book (Done job end) d o v due (inr n) k f w = absurd n
+    subst (λ (z : Closing). is_ended z.end ≡ true) q (by_end_wish book ending.job ending.end due.opening.ask.wish due.wish x)
+new_ends book (Done ending) d o v due (inr n) k f w = absurd n
 new_ends book _ d o v due h k f w = absurd h
 
 ends_after : (book : List Entry) (e : Entry) → IsOrderly book → IsOrderly (book ++ e ∷ []) → BookFacts book → IsDue book e → (d : Closing) (o : Opening) → Has (endings (book ++ e ∷ [])) d

@@ -32,7 +32,7 @@ use Rattle.uss_law_dss.proofs.Placed.{put_there, put_keeps, put_others}
 use Rattle.uss_law_dss.proofs.Retired.{pushed_in, pushed_before}
 use Rattle.uss_law_dss.proofs.EachEffect.{effect}
 use Rattle.uss_law_dss.proofs.EachOrderly.{step_orderly}
-use Rattle.uss_law_book.specs.Readings.{is_closed}
+use Rattle.uss_law_book.specs.Contents.{is_closed}
 use Rattle.uss_law_book.specs.Attempts.{Attempted, attempt_of, extents_of, put_of, recorded_as}
 use Rattle.uss_law_world.specs.World.{Supplier, World, book_of, name_of}
 use Rattle.uss_law_world.specs.World.Post.{Called, Replied}

@@ -6,8 +6,11 @@ use Rattle.uss_event.specs.declared.entries.Owner.{Owner}
 use Rattle.uss_law_dss.specs.Lists.{Has}
 use Rattle.uss_law_dss.proofs.Lists.{list_any_has}
 use Rattle.uss_law_dss.proofs.Tests.{same_number, not_both}
-use Rattle.uss_law_book.specs.Lists.{Trial, Holding, Closing, trials, holdings, endings}
-use Rattle.uss_law_book.specs.Readings.{is_open, is_done, is_ended}
+use Rattle.uss_event.specs.declared.entries.Trial.{Trial}
+use Rattle.uss_event.specs.declared.entries.Holding.{Holding}
+use Rattle.uss_event.specs.declared.entries.Closing.{Closing}
+use Rattle.uss_law_book.specs.Lists.{trials, holdings, endings}
+use Rattle.uss_law_book.specs.Contents.{is_open, is_done, is_ended}
 use Rattle.uss_law_book.proofs.EachOrderly.{legal_is_orderly}
 use Rattle.uss_law_world.specs.World.{World, book_of}
 use Rattle.uss_law_world.specs.Free.{AreSuppliers}

@@ -18,7 +18,7 @@ use Rattle.uss_event.specs.declared.events.Said.TheVariants as Says
 use Rattle.uss_event.specs.declared.events.Event.TheVariants as Comes
 use Rattle.uss_law_dss.specs.Service.{ovn_of, lies_in}
 use Rattle.uss_law_book.specs.Coding.{IsSubscriber, journal_length}
-use Rattle.uss_law_book.specs.Readings.{is_open, opening_of, is_held, is_done, trials_of, trial_of, decision_of, holding_of, ending_of, is_job_of, has_ended, holdings_of, holding, is_ticket_open, is_ticket_gone, owed_of, is_told, untold}
+use Rattle.uss_law_book.specs.Contents.{is_open, opening_of, is_held, is_done, trials_of, trial_of, decision_of, holding_of, ending_of, is_job_of, has_ended, holdings_of, holding, is_ticket_open, is_ticket_gone, owed_of, is_sent, unsent}
 use Rattle.uss_law_book.specs.Attempts.{Attempted, attempted, attempt_of, put_of, held}
 use Rattle.uss_law_book.specs.Reserve.{need, reserved}
 use Rattle.uss_law_book.specs.Legal.{MayDecide, MayEnd, MayFollow}
@@ -34,13 +34,13 @@ use Rattle.uss_law_world.specs.World.{supplier_in, start}
 use Rattle.uss_law_world.specs.Moves.{run}
 use Rattle.uss_law_world.specs.Free.{IsFree}
 use Rattle.uss_law_world.specs.Worked.{said_in, replies_in, second, second_tried_book, hidden}
-use Rattle.uss_law_world.specs.Contested.{second_subscriber, landed_told, recorded_owing, owing_book, details, asks_details, heard_first, in_conflict, conflict, deciding, second_deciding_book, done, second_ticket_remove, told_ticket, given_up, given_up_replies, given_up_sayings}
+use Rattle.uss_law_world.specs.Contested.{second_subscriber, landed_notifying, recorded_owing, owing_book, details, asks_details, heard_first, in_conflict, conflict, deciding, second_deciding_book, done, second_ticket_remove, notified_ticket, given_up, given_up_replies, given_up_sayings}
 use Rattle.uss_law_world.proofs.Second as Second
 
 -- the first supplier enters what landed
 
 room_owing : reserved owing_book ≤ 536870912
-unfolding reserved need journal_length opening_of is_held is_done is_ticket_open is_ticket_gone decision_of untold owed_of holding_of ending_of is_told
+unfolding reserved need journal_length opening_of is_held is_done is_ticket_open is_ticket_gone decision_of unsent owed_of holding_of ending_of is_sent
 room_owing = omega arith
 
 second_base : is_base second_subscriber.base ≡ true
@@ -92,11 +92,11 @@ its_tag = refl
 puts_with : IsPutWith tried_book 1 1 put
 puts_with = record { attempt = the_attempt; found = attempt_is_found; its_job = its_job_is; is = its_put }
 
-holds_by_landing : HoldsByReply owner tried_book (replied put landed_told) 1 1 ovn 1
+holds_by_landing : HoldsByReply owner tried_book (replied put landed_notifying) 1 1 ovn 1
 holds_by_landing =
     record {
       ask = put;
-      reply = landed_told;
+      reply = landed_notifying;
       reference = the_reference;
       unfinished = is_open_still;
       answers = (refl, refl, refl);
@@ -107,11 +107,11 @@ holds_by_landing =
       version_is = refl;
     }
 
-kept_as_planned : IsKeptAnswer owner owing_book (replied put landed_told) (Planned flight 1 0 ovn 1)
+kept_as_planned : IsKeptAnswer owner owing_book (replied put landed_notifying) (Planned flight 1 0 ovn 1)
 unfolding kept_answer opening_of holding_of ending_of trial_of
 kept_as_planned = record { opening = record { job = 1; moment = now; ask = ask }; named = refl; kept = refl }
 
-pub landed : MayStep tried_book [] now (replied put landed_told) (Some recorded_owing) [] planned []
+pub landed : MayStep tried_book [] now (replied put landed_notifying) (Some recorded_owing) [] planned []
 landed =
     record {
       acts =
@@ -194,15 +194,15 @@ finds =
 -- decides to give up
 
 room_tried : reserved second_tried_book ≤ 536870912
-unfolding reserved need journal_length opening_of is_held is_done is_ticket_open is_ticket_gone decision_of untold owed_of holding_of ending_of is_told
+unfolding reserved need journal_length opening_of is_held is_done is_ticket_open is_ticket_gone decision_of unsent owed_of holding_of ending_of is_sent
 room_tried = omega arith
 
 room_deciding : reserved second_deciding_book ≤ 536870912
-unfolding reserved need journal_length opening_of is_held is_done is_ticket_open is_ticket_gone decision_of untold owed_of holding_of ending_of is_told
+unfolding reserved need journal_length opening_of is_held is_done is_ticket_open is_ticket_gone decision_of unsent owed_of holding_of ending_of is_sent
 room_deciding = omega arith
 
 room_done : reserved (second_deciding_book ++ done ∷ []) ≤ 536870912
-unfolding reserved need journal_length opening_of is_held is_done is_ticket_open is_ticket_gone decision_of untold owed_of holding_of ending_of is_told
+unfolding reserved need journal_length opening_of is_held is_done is_ticket_open is_ticket_gone decision_of unsent owed_of holding_of ending_of is_sent
 room_done = omega arith
 
 may_decide : MayDecide second_tried_book 1 in_conflict
@@ -260,11 +260,11 @@ may_end = record { opening = record { job = 1; moment = now; ask = ask }; opened
 done_follows : MayFollow second_deciding_book done
 done_follows = record { first = refl; coding = (omega arith, (omega arith, refl, tt)); due = may_end; room_before = room_deciding; room_after = room_done }
 
-kept_as_conflict : IsKeptAnswer second (second_deciding_book ++ done ∷ []) (replied second_ticket_remove (Replies.TicketRemoved told_ticket)) conflict
+kept_as_conflict : IsKeptAnswer second (second_deciding_book ++ done ∷ []) (replied second_ticket_remove (Replies.TicketRemoved notified_ticket)) conflict
 unfolding kept_answer opening_of holding_of ending_of
 kept_as_conflict = record { opening = record { job = 1; moment = now; ask = ask }; named = refl; kept = refl }
 
-gives_up : MayStep second_deciding_book heard_first now (replied second_ticket_remove (Replies.TicketRemoved told_ticket)) (Some done) [] (Says.Answer conflict) heard_first
+gives_up : MayStep second_deciding_book heard_first now (replied second_ticket_remove (Replies.TicketRemoved notified_ticket)) (Some done) [] (Says.Answer conflict) heard_first
 gives_up =
     record {
       acts =
@@ -275,7 +275,7 @@ gives_up =
             pair = tt;
             notes = none_sent (OfPeer (NotesAreHeld (second_deciding_book ++ done ∷ [])));
             held = tt;
-            removals = ((λ e. cc), (λ e. record { reply = Replies.TicketRemoved told_ticket; answers = (refl, refl, refl); removed = tt }));
+            removals = ((λ e. cc), (λ e. record { reply = Replies.TicketRemoved notified_ticket; answers = (refl, refl, refl); removed = tt }));
             tickets = tt;
             ticket_calls = none_sent (OfDss (TicketsAreDue second (second_deciding_book ++ done ∷ [])));
             ticket_removals = none_sent (OfDss (RemovalsAreDue second (second_deciding_book ++ done ∷ [])));

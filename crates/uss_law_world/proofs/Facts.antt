@@ -29,8 +29,12 @@ use Rattle.uss_event.specs.declared.events.Said.{Said}
 use Rattle.uss_event.specs.declared.events.Said.TheVariants as Says
 use Rattle.uss_law_dss.specs.Lists.{Has}
 use Rattle.uss_law_dss.specs.Orderly.{IsOrderly}
-use Rattle.uss_law_book.specs.Lists.{Opening, Trial, Holding, Closing, openings, trials, holdings, endings}
-use Rattle.uss_law_book.specs.Readings.{trial_of, is_closed, is_ended}
+use Rattle.uss_event.specs.declared.entries.Opening.{Opening}
+use Rattle.uss_event.specs.declared.entries.Trial.{Trial}
+use Rattle.uss_event.specs.declared.entries.Holding.{Holding}
+use Rattle.uss_event.specs.declared.entries.Closing.{Closing}
+use Rattle.uss_law_book.specs.Lists.{openings, trials, holdings, endings}
+use Rattle.uss_law_book.specs.Contents.{trial_of, is_closed, is_ended}
 use Rattle.uss_law_book.specs.Attempts.{Attempted, attempt_of, extents_of, put_of, recorded_as}
 use Rattle.uss_event.specs.Heard.News.{Heard}
 use Rattle.uss_law_duty.specs.Entered.{candidate_of}
@@ -217,7 +221,7 @@ pub record Facts (table : List ℕ) (owners : List Owner) (w : World) : Type 0 w
   pub replies : (s k : ℕ) (call : DssCall) (reply : DssReply) → Has w.posts (Replied s k call reply) → ReplyShows w s call.job call.ask reply
   pub said : (x : Saying) (p : OperationalIntent) → Has w.sayings x → x.said ≡ Says.Pair (Some p) → IsPairLanded w p
   pub served : (s k : ℕ) (call : PeerCall) (p : OperationalIntent) → Has w.posts (Answered s k call (Peers.Served p)) → IsPairLanded w p
-  pub notes : (s : ℕ) (to : Option ℕ) (job place : ℕ) (base : List ℕ) (note : Note) (p : OperationalIntent) → Has w.posts (Asked s to (Calls.Notify job place base note)) → note.pair ≡ Some p → IsPairLanded w p
+  pub notes : (s : ℕ) (to : Option ℕ) (job index : ℕ) (base : List ℕ) (note : Note) (p : OperationalIntent) → Has w.posts (Asked s to (Calls.Notify job index base note)) → note.pair ≡ Some p → IsPairLanded w p
   pub heard : (s : ℕ) (p : OperationalIntent) → Has (heard_of s w) (Heard p) → IsPairLanded w p
   pub entered : (s : ℕ) (h : Holding) → Has (holdings (book_of s w)) h → HasLanding w s h.tag h.ovn h.version
   pub keys : (s tag : ℕ) (a : Attempted) → attempt_of tag (book_of s w) ≡ Some a → is_strategic a.state ≡ true → (o : List ℕ) → Has a.key o → IsClearOfPair table w a o

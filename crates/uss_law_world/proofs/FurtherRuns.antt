@@ -6,7 +6,7 @@ use Rattle.uss_vol4.specs.Bounding.{bounding_box}
 use Rattle.uss_vol4.specs.Sharing.{shares, any_shares}
 use Rattle.uss_intent.specs.Tags.{tag_of, number_of_digits, digits_at_end}
 use Rattle.uss_law_dss.specs.Service.{ovn_of, lies_in}
-use Rattle.uss_law_book.specs.Readings.{opening_of}
+use Rattle.uss_law_book.specs.Contents.{opening_of}
 use Rattle.uss_law_duty.specs.Answers.{job_of_request}
 use Rattle.uss_law_duty.specs.Duties.{clamped}
 use Rattle.uss_law_duty.specs.Worked.{owner, planned}
@@ -19,7 +19,7 @@ use Rattle.uss_law_world.specs.Free.{IsFree}
 use Rattle.uss_law_world.specs.Worked.{said_in, replies_in, saying, second, found_again_replies}
 use Rattle.uss_law_world.specs.WorkedEnds.{planned_replies, watched, watched_sayings, ended, ended_replies, ended_sayings}
 use Rattle.uss_law_world.specs.WorkedStops.{failed, failed_sayings, stopped_twice, answered_twice, answered_twice_sayings}
-use Rattle.uss_law_world.specs.WorkedSweeps.{told, told_replies, told_sayings}
+use Rattle.uss_law_world.specs.WorkedSweeps.{notifying, notifying_replies, notifying_sayings}
 use Rattle.uss_law_world.proofs.WorkedSteps.{answers_again, retires, retired, rests_then, rests, notes}
 use Rattle.uss_law_world.proofs.Second as Second
 use Rattle.uss_law_world.proofs.Contested as Contested
@@ -84,14 +84,14 @@ pub answered_twice_is_free : IsFree (start (owner ∷ [])) answered_twice
 unfolding bounds_of bounding_box tag_of number_of_digits digits_at_end ovn_of lies_in supplier_in clamped opening_of
 answered_twice_is_free = (tt, (May.asking, (tt, (May.ticket_made, (tt, (May.nothing_found, (tt, (May.landed, (answers_again, tt)))))))))
 
-pub told_replied : replies_in (run (start (owner ∷ second ∷ [])) told) ≡ told_replies
+pub notifying_replied : replies_in (run (start (owner ∷ second ∷ [])) notifying) ≡ notifying_replies
 unfolding bounds_of outlines_meet region_holds_first region_holds bounding_box shares any_shares tag_of number_of_digits digits_at_end ovn_of lies_in supplier_in clamped opening_of
-told_replied = refl
+notifying_replied = refl
 
-pub told_said : said_in (run (start (owner ∷ second ∷ [])) told) ≡ told_sayings
+pub notifying_said : said_in (run (start (owner ∷ second ∷ [])) notifying) ≡ notifying_sayings
 unfolding bounds_of outlines_meet region_holds_first region_holds bounding_box shares any_shares tag_of number_of_digits digits_at_end ovn_of lies_in supplier_in clamped opening_of job_of_request
-told_said = refl
+notifying_said = refl
 
-pub told_is_free : IsFree (start (owner ∷ second ∷ [])) told
+pub notifying_is_free : IsFree (start (owner ∷ second ∷ [])) notifying
 unfolding bounds_of outlines_meet region_holds_first region_holds bounding_box shares any_shares tag_of number_of_digits digits_at_end ovn_of lies_in supplier_in clamped opening_of
-told_is_free = (tt, (Second.asking, (tt, (May.asking, (tt, (May.ticket_made, (tt, (May.nothing_found, (tt, (Contested.landed, (Others.tells, (notes, (Others.told, (rests, tt))))))))))))))
+notifying_is_free = (tt, (Second.asking, (tt, (May.asking, (tt, (May.ticket_made, (tt, (May.nothing_found, (tt, (Contested.landed, (Others.tells, (notes, (Others.notifying, (rests, tt))))))))))))))

@@ -24,8 +24,12 @@ use Rattle.uss_event.specs.declared.events.Said.TheVariants as Says
 use Rattle.uss_law_dss.specs.Lists.{Has}
 use Rattle.uss_law_dss.specs.Service.{Service}
 use Rattle.uss_law_dss.specs.Orderly.{IsOrderly}
-use Rattle.uss_law_book.specs.Lists.{Opening, Trial, Holding, Closing, openings, trials, holdings, endings}
-use Rattle.uss_law_book.specs.Readings.{trial_of, is_closed}
+use Rattle.uss_event.specs.declared.entries.Opening.{Opening}
+use Rattle.uss_event.specs.declared.entries.Trial.{Trial}
+use Rattle.uss_event.specs.declared.entries.Holding.{Holding}
+use Rattle.uss_event.specs.declared.entries.Closing.{Closing}
+use Rattle.uss_law_book.specs.Lists.{openings, trials, holdings, endings}
+use Rattle.uss_law_book.specs.Contents.{trial_of, is_closed}
 use Rattle.uss_law_book.specs.Attempts.{Attempted, attempt_of}
 use Rattle.uss_law_book.proofs.Entries.{opening_stays, trial_stays, closed_by_either}
 use Rattle.uss_law_book.proofs.Attempts.{attempt_kept, trial_kept}
@@ -274,8 +278,8 @@ pub record News (table : List ℕ) (owners : List Owner) (w v : World) : Type 0 
   pub replies : (s k : ℕ) (call : DssCall) (reply : DssReply) → Has v.posts (Replied s k call reply) → Has w.posts (Replied s k call reply) ⊎ ReplyShows v s call.job call.ask reply
   pub said : (x : Saying) (p : OperationalIntent) → Has v.sayings x → x.said ≡ Says.Pair (Some p) → Has w.sayings x ⊎ IsPairLanded v p
   pub served : (s k : ℕ) (call : PeerCall) (p : OperationalIntent) → Has v.posts (Answered s k call (Peers.Served p)) → Has w.posts (Answered s k call (Peers.Served p)) ⊎ IsPairLanded v p
-  pub notes : (s : ℕ) (to : Option ℕ) (job place : ℕ) (base : List ℕ) (note : Note) (p : OperationalIntent) → Has v.posts (Asked s to (Calls.Notify job place base note)) → note.pair ≡ Some p
-      → Has w.posts (Asked s to (Calls.Notify job place base note)) ⊎ IsPairLanded v p
+  pub notes : (s : ℕ) (to : Option ℕ) (job index : ℕ) (base : List ℕ) (note : Note) (p : OperationalIntent) → Has v.posts (Asked s to (Calls.Notify job index base note)) → note.pair ≡ Some p
+      → Has w.posts (Asked s to (Calls.Notify job index base note)) ⊎ IsPairLanded v p
   pub heard : (s : ℕ) (p : OperationalIntent) → Has (heard_of s v) (Heard p) → Has (heard_of s w) (Heard p) ⊎ IsPairLanded v p
   pub entered : (s : ℕ) (h : Holding) → Has (holdings (book_of s v)) h → Has (holdings (book_of s w)) h ⊎ HasLanding v s h.tag h.ovn h.version
   pub keys : (s tag : ℕ) (a : Attempted) → attempt_of tag (book_of s v) ≡ Some a

@@ -24,8 +24,9 @@ use Rattle.uss_law_dss.proofs.History.{has_numbered, last_has}
 use Rattle.uss_law_dss.proofs.Ovns.{ovns_differ}
 use Rattle.uss_law_dss.proofs.EachEffect.{effect}
 use Rattle.uss_law_dss.proofs.EachOrderly.{step_orderly, one_landing}
-use Rattle.uss_law_book.specs.Lists.{Trial, openings, trials}
-use Rattle.uss_law_book.specs.Readings.{is_closed, owns, holding, holdings_of, has_ended}
+use Rattle.uss_event.specs.declared.entries.Trial.{Trial}
+use Rattle.uss_law_book.specs.Lists.{openings, trials}
+use Rattle.uss_law_book.specs.Contents.{is_closed, owns, holding, holdings_of, has_ended}
 use Rattle.uss_law_book.specs.Attempts.{Attempted, attempt_of, extents_of, put_of, recorded_as, held}
 use Rattle.uss_law_book.proofs.Finds.{none_filtered, find_found}
 use Rattle.uss_law_book.proofs.Kept.{open_parts, held_closes, opening_has}

@@ -13,8 +13,12 @@ use Rattle.uss_law_dss.proofs.Lists.{find_has, list_any_has}
 use Rattle.uss_law_dss.proofs.Tests.{same_number, other_number, not_both, some_same, either}
 use Rattle.uss_law_dss.proofs.History.{last_has}
 use Rattle.uss_law_dss.proofs.EachOrderly.{one_landing}
-use Rattle.uss_law_book.specs.Lists.{Opening, Trial, Holding, Closing, openings, trials, holdings, endings}
-use Rattle.uss_law_book.specs.Readings.{is_held, is_done, is_closed, is_ended, has_ended, holding, base_of}
+use Rattle.uss_event.specs.declared.entries.Opening.{Opening}
+use Rattle.uss_event.specs.declared.entries.Trial.{Trial}
+use Rattle.uss_event.specs.declared.entries.Holding.{Holding}
+use Rattle.uss_event.specs.declared.entries.Closing.{Closing}
+use Rattle.uss_law_book.specs.Lists.{openings, trials, holdings, endings}
+use Rattle.uss_law_book.specs.Contents.{is_held, is_done, is_closed, is_ended, has_ended, holding, current_ovn_of}
 use Rattle.uss_law_book.specs.Attempts.{Attempted, attempt_of}
 use Rattle.uss_law_book.specs.Orderly.{IsOrderly}
 use Rattle.uss_law_book.proofs.EachOrderly.{legal_is_orderly}
@@ -209,9 +213,9 @@ module _ (table : List ℕ) (owners : List Owner) (w : World) (names : AreSuppli
     held_base e u h k q = elim (B.followed h Q.opening k Q.opened (sym q)) [
       | inl last ↦ (
           let live : has_ended Q.opening.ask.flight (book_of s w) ≡ false = subst (λ z. has_ended z (book_of s w) ≡ false) e (alive (book_of s w) P.opening B P.opened u) in
-          let base : base_of Q.opening.ask.flight (book_of s w) ≡ Some h.ovn = rw (live, last) refl in
-          let x : P.trial.previous ≡ base_of P.opening.ask.flight (book_of s w) = O.based P.trial P.opening P.tried P.opened P.its_job u in
-          P.its.previous ∙ (x ∙ (ap (λ z. base_of z (book_of s w)) e ∙ (base ∙ (ap Some same ∙ sym ovn)))))
+          let base : current_ovn_of Q.opening.ask.flight (book_of s w) ≡ Some h.ovn = rw (live, last) refl in
+          let x : P.trial.previous ≡ current_ovn_of P.opening.ask.flight (book_of s w) = O.based P.trial P.opening P.tried P.opened P.its_job u in
+          P.its.previous ∙ (x ∙ (ap (λ z. current_ovn_of z (book_of s w)) e ∙ (base ∙ (ap Some same ∙ sym ovn)))))
       | inr f ↦ (
           let m = j.entered s f.next f.entered in
           let p = previous_is s f.trial m.landing f.tried m.landed m.manager (f.tag ∙ sym m.tag_is) in

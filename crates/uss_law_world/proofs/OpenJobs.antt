@@ -13,8 +13,9 @@ use Rattle.uss_law_dss.proofs.Lists.{find_has}
 use Rattle.uss_law_dss.proofs.Tests.{same_number, equal_number, not_both, some_same}
 use Rattle.uss_law_dss.proofs.History.{last_has}
 use Rattle.uss_law_dss.proofs.EachOrderly.{one_landing}
-use Rattle.uss_law_book.specs.Lists.{Opening, openings}
-use Rattle.uss_law_book.specs.Readings.{opening_of, open_job_of, is_open, is_closed, is_put, has_ended}
+use Rattle.uss_event.specs.declared.entries.Opening.{Opening}
+use Rattle.uss_law_book.specs.Lists.{openings}
+use Rattle.uss_law_book.specs.Contents.{opening_of, open_job_of, is_open, is_closed, is_put, has_ended}
 use Rattle.uss_law_book.specs.Orderly.{IsOrderly}
 use Rattle.uss_law_book.proofs.Finds.{find_found}
 use Rattle.uss_law_book.proofs.Kept.{opening_has, open_parts}
@@ -103,7 +104,7 @@ module _ (table : List ℕ) (owners : List Owner) (w : World) (names : AreSuppli
         record {
           landing = l;
           of_job = a;
-          base = previous_is table owners w names j s a.trial l a.tried a.there a.manager a.tag ∙ r.based a.trial o a.tried opened (sym a.job_is) unclosed;
+          current = previous_is table owners w names j s a.trial l a.tried a.there a.manager a.tag ∙ r.based a.trial o a.tried opened (sym a.job_is) unclosed;
           recorded = q;
           found = x.1 ∙ ap Some one;
           ovn = k.2;

@@ -57,7 +57,7 @@ found_there xs p = go (find p xs) refl
 
 addressed : (xs : List Supplier) (call : PeerCall) → IfSome (addressee xs call) (IsThere xs)
 addressed xs (Calls.Details job flight manager base) = found_there xs (λ (x : Supplier). same_text x.owner.name manager)
-addressed xs (Calls.Notify job place base note) = found_there xs (λ (x : Supplier). same_text x.owner.base base)
+addressed xs (Calls.Notify job index base note) = found_there xs (λ (x : Supplier). same_text x.owner.base base)
 
 -- so the messages of a step are of suppliers that are there
 abbrev pub ArrivesThere : World → Arrival → Type 0

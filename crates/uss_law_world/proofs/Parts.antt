@@ -19,8 +19,10 @@ use Rattle.uss_law_dss.specs.Orderly.{IsAsLanded}
 use Rattle.uss_law_dss.proofs.Tests.{some_same}
 use Rattle.uss_law_dss.proofs.History.{last_has}
 use Rattle.uss_law_dss.proofs.EachOrderly.{one_landing}
-use Rattle.uss_law_book.specs.Lists.{owner_of, Opening, Trial, openings, trials}
-use Rattle.uss_law_book.specs.Readings.{trial_of}
+use Rattle.uss_event.specs.declared.entries.Opening.{Opening}
+use Rattle.uss_event.specs.declared.entries.Trial.{Trial}
+use Rattle.uss_law_book.specs.Lists.{owner_of, openings, trials}
+use Rattle.uss_law_book.specs.Contents.{trial_of}
 use Rattle.uss_law_book.specs.Attempts.{Attempted, attempt_of, attempted, by_wish}
 use Rattle.uss_law_book.specs.Legal.{IsLegal}
 use Rattle.uss_law_book.proofs.Attempts.{parts, trial_has}

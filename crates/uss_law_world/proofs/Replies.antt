@@ -100,20 +100,20 @@ first_holds r (t ∷ ts) h = go t.0 refl (first_holds r ts) h
     go false e rec k = later (refusal_number t.1 == refusal_number r) (rec k)
 
 -- what is refused as retired is
-abbrev pub IsTold : Service → DssAsk → Type 0
-IsTold s (Query area) = Unit {0}
-IsTold s (Get flight) = is_one_of flight s.retired_flights ≡ true
-IsTold s (Put flight ovn extents key state base ticket) = is_one_of flight s.retired_flights ≡ true
-IsTold s (Remove flight ovn) = is_one_of flight s.retired_flights ≡ true
-IsTold s (TicketPut ticket area base) = is_one_of ticket s.retired_tickets ≡ true
-IsTold s (TicketGet ticket) = is_one_of ticket s.retired_tickets ≡ true
-IsTold s (TicketRemove ticket version) = is_one_of ticket s.retired_tickets ≡ true
+abbrev pub IsNotified : Service → DssAsk → Type 0
+IsNotified s (Query area) = Unit {0}
+IsNotified s (Get flight) = is_one_of flight s.retired_flights ≡ true
+IsNotified s (Put flight ovn extents key state base ticket) = is_one_of flight s.retired_flights ≡ true
+IsNotified s (Remove flight ovn) = is_one_of flight s.retired_flights ≡ true
+IsNotified s (TicketPut ticket area base) = is_one_of ticket s.retired_tickets ≡ true
+IsNotified s (TicketGet ticket) = is_one_of ticket s.retired_tickets ≡ true
+IsNotified s (TicketRemove ticket version) = is_one_of ticket s.retired_tickets ≡ true
 
 one_test : {A : Type 0} (b : Bool) → ((b ≡ true) × A) ⊎ ⊥ → b ≡ true
 one_test b (inl h) = h.0
 one_test b (inr n) = absurd n
 
-pub retired_told : (s : Service) (client : List ℕ) (ask : DssAsk) → refusal_of s client ask ≡ Some Retired → IsTold s ask
+pub retired_told : (s : Service) (client : List ℕ) (ask : DssAsk) → refusal_of s client ask ≡ Some Retired → IsNotified s ask
 retired_told s client (Query area) h = tt
 retired_told s client (Get flight) h = one_test (is_one_of flight s.retired_flights) (first_holds Retired (tests_of s client (Get flight)) h)
 retired_told s client (Put flight ovn extents key state base ticket) h =

@@ -75,7 +75,7 @@ same_facts table owners w v q j = kept table owners w v news j
           replies = λ k n call reply h. inl (subst (λ z. Has z (Replied k n call reply)) q.posts h);
           said = λ x p h e. inl (subst (λ z. Has z x) q.sayings h);
           served = λ k n call p h. inl (subst (λ z. Has z (Answered k n call (Peers.Served p))) q.posts h);
-          notes = λ k to job place base note p h e. inl (subst (λ z. Has z (Asked k to (Calls.Notify job place base note))) q.posts h);
+          notes = λ k to job index base note p h e. inl (subst (λ z. Has z (Asked k to (Calls.Notify job index base note))) q.posts h);
           heard = λ k p h. inl (q.heard k p h);
           entered = λ k h n. inl (subst (λ b. Has (holdings b) h) (q.books k) n);
           keys = λ k tag a h. inl (subst (λ b. attempt_of tag b ≡ Some a) (q.books k) h);
@@ -107,7 +107,7 @@ post_has (suc k) w p h = has_at w.posts k p h
 -- what comes to a supplier was sent
 event_comes : (w : World) (s from : ℕ) (client : List ℕ) (call : PeerCall) → Has w.posts (Asked from (Some s) call) → Comes w s (event_by client call)
 event_comes w s from client (Calls.Details job flight manager base) h = tt
-event_comes w s from client (Calls.Notify job place base note) h = record { from = from; to = Some s; job = job; place = place; base = base; sent = h }
+event_comes w s from client (Calls.Notify job index base note) h = record { from = from; to = Some s; job = job; index = index; base = base; sent = h }
 
 came_comes : (w : World) (b a : Arrival) → Comes w b.supplier b.event → to_one w b ≡ Some a → Comes w a.supplier a.event
 came_comes w b a h e = subst (λ (z : Arrival). Comes w z.supplier z.event) (came w b a e).is h

@@ -9,7 +9,7 @@ use Rattle.uss_intent.specs.declared.calls.DssReply.TheVariants as Replies
 use Rattle.uss_event.specs.declared.events.Said.TheVariants as Says
 use Rattle.uss_event.specs.declared.events.Event.TheVariants as Comes
 use Rattle.uss_law_book.specs.Coding.{journal_length}
-use Rattle.uss_law_book.specs.Readings.{is_open, opening_of, is_held, is_done, trials_of, trial_of, decision_of, holding_of, ending_of, jobs_of, open_job_of, last_of, has_ended, holdings_of, holding, is_ticket_open, is_ticket_gone, owed_of, is_told, untold}
+use Rattle.uss_law_book.specs.Contents.{is_open, opening_of, is_held, is_done, trials_of, trial_of, decision_of, holding_of, ending_of, jobs_of, open_job_of, last_of, has_ended, holdings_of, holding, is_ticket_open, is_ticket_gone, owed_of, is_sent, unsent}
 use Rattle.uss_law_book.specs.Attempts.{Attempted, attempted, attempt_of, put_of, held}
 use Rattle.uss_law_book.specs.Reserve.{need, reserved}
 use Rattle.uss_law_book.specs.Legal.{MayOpen, MayOpenTicket, MayTry, MayFollow}
@@ -24,15 +24,15 @@ unfolding reserved need journal_length
 room_before = omega arith
 
 room_asked : reserved second_asked_book ≤ 536870912
-unfolding reserved need journal_length opening_of is_held is_done is_ticket_open is_ticket_gone decision_of untold owed_of holding_of ending_of is_told
+unfolding reserved need journal_length opening_of is_held is_done is_ticket_open is_ticket_gone decision_of unsent owed_of holding_of ending_of is_sent
 room_asked = omega arith
 
 room_ticket : reserved second_ticket_book ≤ 536870912
-unfolding reserved need journal_length opening_of is_held is_done is_ticket_open is_ticket_gone decision_of untold owed_of holding_of ending_of is_told
+unfolding reserved need journal_length opening_of is_held is_done is_ticket_open is_ticket_gone decision_of unsent owed_of holding_of ending_of is_sent
 room_ticket = omega arith
 
 room_tried : reserved second_tried_book ≤ 536870912
-unfolding reserved need journal_length opening_of is_held is_done is_ticket_open is_ticket_gone decision_of untold owed_of holding_of ending_of is_told
+unfolding reserved need journal_length opening_of is_held is_done is_ticket_open is_ticket_gone decision_of unsent owed_of holding_of ending_of is_sent
 room_tried = omega arith
 
 may_open : MayOpen second_book 1 ask
@@ -129,7 +129,7 @@ may_try =
       round = omega arith;
       next = refl;
       one_of = omega arith;
-      base = refl;
+      current = refl;
       few = omega arith;
       blind = tt;
     }

@@ -9,7 +9,7 @@ use Rattle.uss_law_duty.specs.Duties.{clamped}
 use Rattle.uss_event.specs.declared.events.Answer.TheVariants as Answers
 use Rattle.uss_event.specs.declared.events.Said.TheVariants as Says
 use Rattle.uss_law_dss.specs.Service.{ovn_of, lies_in}
-use Rattle.uss_law_book.specs.Readings.{opening_of}
+use Rattle.uss_law_book.specs.Contents.{opening_of}
 use Rattle.uss_law_duty.specs.Worked as One
 use Rattle.uss_law_duty.proofs.Worked as May
 use Rattle.uss_law_world.specs.World.{supplier_in, start}

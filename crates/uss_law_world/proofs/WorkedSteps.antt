@@ -11,7 +11,7 @@ use Rattle.uss_event.specs.declared.events.Event.TheVariants as Comes
 use Rattle.uss_event.specs.declared.events.Answer.TheVariants.{Planned}
 use Rattle.uss_law_book.specs.Lists.{owner_of}
 use Rattle.uss_law_book.specs.Coding.{journal_length}
-use Rattle.uss_law_book.specs.Readings.{opening_of, is_held, is_done, trial_of, decision_of, holding_of, ending_of, has_ended, is_ticket_open, is_ticket_gone, is_ticket_needed, is_job_of, owed_of, is_told, untold}
+use Rattle.uss_law_book.specs.Contents.{opening_of, is_held, is_done, trial_of, decision_of, holding_of, ending_of, has_ended, is_ticket_open, is_ticket_gone, is_ticket_needed, is_job_of, owed_of, is_sent, unsent}
 use Rattle.uss_law_book.specs.Reserve.{need, reserved}
 use Rattle.uss_law_book.specs.Legal.{MayRetire, MayFollow}
 use Rattle.uss_event.specs.Heard.{News}
@@ -24,7 +24,7 @@ use Rattle.uss_law_duty.specs.Worked.{now, owner, ask, flight, ovn, held_book, p
 use Rattle.uss_law_duty.proofs.Worked.{each_one, none_sent}
 use Rattle.uss_law_world.specs.Worked.{second, second_asked_book}
 use Rattle.uss_law_world.specs.WorkedEnds.{ended_book, ticket_gone, gone_book}
-use Rattle.uss_law_world.specs.WorkedSweeps.{told_book}
+use Rattle.uss_law_world.specs.WorkedSweeps.{notifying_book}
 
 -- a step that enters and sends nothing
 says_only : (o : Owner) (book : List Entry) (heard : List News) (moment : ℤ) (event : Event) (said : Said) (after : List News) → owner_of book ≡ Some o → PairIsHeld book said → FinalIsKept o book event said
@@ -62,11 +62,11 @@ answers_again = says_only owner held_book [] now (Comes.Ask ask) planned [] refl
 
 -- the ticket of an ended flight
 room_ended : reserved ended_book ≤ 536870912
-unfolding reserved need journal_length opening_of is_held is_done is_ticket_open is_ticket_gone decision_of untold owed_of holding_of ending_of is_told
+unfolding reserved need journal_length opening_of is_held is_done is_ticket_open is_ticket_gone decision_of unsent owed_of holding_of ending_of is_sent
 room_ended = omega arith
 
 room_gone : reserved gone_book ≤ 536870912
-unfolding reserved need journal_length opening_of is_held is_done is_ticket_open is_ticket_gone decision_of untold owed_of holding_of ending_of is_told
+unfolding reserved need journal_length opening_of is_held is_done is_ticket_open is_ticket_gone decision_of unsent owed_of holding_of ending_of is_sent
 room_gone = omega arith
 
 may_retire : MayRetire ended_book 1
@@ -135,8 +135,8 @@ retired =
 pub rests_then : MayStep gone_book [] now (Comes.Sweep 0) None [] Says.Nothing []
 rests_then = says_only owner gone_book [] now (Comes.Sweep 0) Says.Nothing [] refl tt tt tt (λ e. cc) (inl refl)
 
-pub rests : MayStep told_book [] now (Comes.Sweep 0) None [] Says.Nothing []
-rests = says_only owner told_book [] now (Comes.Sweep 0) Says.Nothing [] refl tt tt tt (λ e. cc) (inl refl)
+pub rests : MayStep notifying_book [] now (Comes.Sweep 0) None [] Says.Nothing []
+rests = says_only owner notifying_book [] now (Comes.Sweep 0) Says.Nothing [] refl tt tt tt (λ e. cc) (inl refl)
 
 -- the second supplier hears of the first's landing
 pub notes : MayStep second_asked_book [] now (Comes.Notified (codes "uss1") note) None [] Says.Noted (Heard held_pair ∷ [])

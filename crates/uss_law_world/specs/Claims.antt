@@ -32,8 +32,10 @@ use Rattle.uss_event.specs.declared.events.Said.TheVariants as Says
 use Rattle.uss_law_dss.specs.Lists.{Has}
 use Rattle.uss_law_dss.specs.Service.{recorded_of}
 use Rattle.uss_law_dss.specs.Step.{service_step}
-use Rattle.uss_law_book.specs.Lists.{Opening, Trial, openings, trials}
-use Rattle.uss_law_book.specs.Readings.{is_open, owns, opening_of, open_job_of, has_ended}
+use Rattle.uss_event.specs.declared.entries.Opening.{Opening}
+use Rattle.uss_event.specs.declared.entries.Trial.{Trial}
+use Rattle.uss_law_book.specs.Lists.{openings, trials}
+use Rattle.uss_law_book.specs.Contents.{is_open, owns, opening_of, open_job_of, has_ended}
 use Rattle.uss_law_book.specs.Attempts.{Attempted, attempt_of, extents_of, recorded_as, held}
 use Rattle.uss_event.specs.Heard.News.{Heard}
 use Rattle.uss_law_duty.specs.Answers.{is_final, job_of_request}
@@ -102,7 +104,7 @@ pub record EachPairIsMade (w : World) : Type 0 where
   pub heard : (s : ℕ) (p : OperationalIntent) → Has (heard_of s w) (Heard p) → IsMade w p
   pub said : (x : Saying) (p : OperationalIntent) → Has w.sayings x → x.said ≡ Says.Pair (Some p) → IsMade w p
   pub served : (s answered : ℕ) (call : PeerCall) (p : OperationalIntent) → Has w.posts (Answered s answered call (Peers.Served p)) → IsMade w p
-  pub noted : (s : ℕ) (to : Option ℕ) (job place : ℕ) (base : List ℕ) (note : Note) (p : OperationalIntent) → Has w.posts (Asked s to (Calls.Notify job place base note)) → note.pair ≡ Some p
+  pub noted : (s : ℕ) (to : Option ℕ) (job index : ℕ) (base : List ℕ) (note : Note) (p : OperationalIntent) → Has w.posts (Asked s to (Calls.Notify job index base note)) → note.pair ≡ Some p
       → IsMade w p
 
 -- two intents of different flights, both Accepted or Activated, of one priority at which conflict is forbidden, share a point of airspace

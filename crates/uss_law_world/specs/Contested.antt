@@ -32,11 +32,11 @@ use Rattle.uss_law_world.specs.Worked.{does, idle, deliver, saying, second_ticke
 abbrev pub second_subscriber : Subscriber
 second_subscriber = record { base = codes "http://uss2.test"; ticket = second_ticket; index = 1 }
 
-abbrev pub landed_told : DssReply
-landed_told = Replies.Landed One.the_reference (second_subscriber ∷ [])
+abbrev pub landed_notifying : DssReply
+landed_notifying = Replies.Landed One.the_reference (second_subscriber ∷ [])
 
 abbrev pub recorded_owing : Entry
-recorded_owing = Enters.Held 1 1 One.ovn 1 (second_subscriber ∷ [])
+recorded_owing = Enters.Held (record { job = 1; tag = 1; ovn = One.ovn; version = 1; owed = second_subscriber ∷ [] })
 
 abbrev pub owing_book : List Entry
 owing_book = One.tried_book ++ recorded_owing ∷ []
@@ -59,19 +59,19 @@ abbrev pub conflict : Answer
 conflict = Answers.Conflict One.flight (codes "uss1") EqualForbidden
 
 abbrev pub deciding : Entry
-deciding = Enters.Deciding 1 in_conflict
+deciding = Enters.Deciding (record { job = 1; end = in_conflict })
 
 abbrev pub second_deciding_book : List Entry
 second_deciding_book = second_tried_book ++ deciding ∷ []
 
 abbrev pub done : Entry
-done = Enters.Done 1 in_conflict
+done = Enters.Done (record { job = 1; end = in_conflict })
 
 abbrev pub second_ticket_remove : DssAsk
 second_ticket_remove = Asks.TicketRemove second_ticket 1
 
-abbrev pub told_ticket : Ticket
-told_ticket = record the_second_ticket { index = 1 }
+abbrev pub notified_ticket : Ticket
+notified_ticket = record the_second_ticket { index = 1 }
 
 abbrev pub hears : Option Entry → List Outgoing → Said → Choice
 hears entry sends said = record { entry = entry; sends = sends; said = said; heard = heard_first }
@@ -89,7 +89,7 @@ given_up =
     ∷ []
 
 abbrev pub given_up_replies : List DssReply
-given_up_replies = both_put_replies ++ Replies.Found (hidden ∷ []) ∷ Replies.TicketRemoved told_ticket ∷ []
+given_up_replies = both_put_replies ++ Replies.Found (hidden ∷ []) ∷ Replies.TicketRemoved notified_ticket ∷ []
 
 abbrev pub given_up_sayings : List Saying
 given_up_sayings =

@@ -23,8 +23,11 @@ use Rattle.uss_event.specs.declared.entries.Entry.{Entry}
 use Rattle.uss_event.specs.declared.calls.DssCall.{DssCall}
 use Rattle.uss_law_dss.specs.Lists.{Has}
 use Rattle.uss_law_dss.specs.Service.{recorded_of}
-use Rattle.uss_law_book.specs.Lists.{owner_of, Opening, Trial, Holding, trials, holdings}
-use Rattle.uss_law_book.specs.Readings.{opening_of, open_job_of, has_ended, is_open, is_done, is_put, base_of}
+use Rattle.uss_event.specs.declared.entries.Opening.{Opening}
+use Rattle.uss_event.specs.declared.entries.Trial.{Trial}
+use Rattle.uss_event.specs.declared.entries.Holding.{Holding}
+use Rattle.uss_law_book.specs.Lists.{owner_of, trials, holdings}
+use Rattle.uss_law_book.specs.Contents.{opening_of, open_job_of, has_ended, is_open, is_done, is_put, current_ovn_of}
 use Rattle.uss_law_book.specs.Attempts.{Attempted, attempt_of, recorded_as}
 use Rattle.uss_law_book.specs.Legal.{IsLegal}
 use Rattle.uss_law_duty.specs.Sends.{RecordsAreDue, TicketsAreDue, RemovalsAreDue}
@@ -175,11 +178,11 @@ pub record IsAsBefore (w : World) (s : ℕ) (o : Opening) : Type 0 where
   pub nothing : NothingLanded w s o.job
   pub held : HoldsWhatIsRecorded w s o.ask.flight
 
--- what is recorded of the flight is a landing of the job, which took the place of the flight's base and cites the job's ticket
+-- what is recorded of the flight is a landing of the job, which changed the flight's current OVN and cites the job's ticket
 pub record IsByTheJob (w : World) (s : ℕ) (o : Opening) : Type 0 where
   pub landing : Landing
   pub of_job : IsLandingOf w s o.job landing
-  pub base : landing.previous ≡ base_of o.ask.flight (book_of s w)
+  pub current : landing.previous ≡ current_ovn_of o.ask.flight (book_of s w)
   pub recorded : Recorded
   pub found : recorded_of (flight_number s o.ask.flight) w.service ≡ Some recorded
   pub ovn : recorded.reference.ovn ≡ Some landing.ovn

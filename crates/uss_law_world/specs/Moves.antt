@@ -20,7 +20,7 @@ use Rattle.uss_event.specs.declared.steps.Stopped.{Stopped}
 use Rattle.uss_event.specs.declared.steps.Stopped.TheVariants as Turns
 use Rattle.uss_law_dss.specs.Service.{Service}
 use Rattle.uss_law_dss.specs.Step.{service_step}
-use Rattle.uss_law_book.specs.Lists.{Opening}
+use Rattle.uss_event.specs.declared.entries.Opening.{Opening}
 use Rattle.uss_law_duty.specs.Answers.{job_of_call, job_named}
 use Rattle.uss_law_duty.specs.Duties.{book_after, Choice}
 use Rattle.uss_law_world.specs.World.{Supplier, Post, Saying, World, supplier_in, book_of, name_of, post_at, post_of}
@@ -75,7 +75,7 @@ pub record Arrival : Type 0 where
 -- what a call of a client is to the supplier that it comes to
 abbrev pub event_by : List ℕ → PeerCall → Event
 event_by client (Calls.Details job flight manager base) = Comes.Details client flight
-event_by client (Calls.Notify job place base note) = Comes.Notified client note
+event_by client (Calls.Notify job index base note) = Comes.Notified client note
 
 -- what is for a supplier that isn't there comes to nobody
 abbrev pub if_there : Option Supplier → Arrival → Option Arrival

@@ -1,4 +1,4 @@
--- A worked run of two suppliers: the first is to tell the second of its landing, whose ticket is for the same airspace, and tells it once.
+-- A worked run of two suppliers: the first is to notify the second of its landing, whose ticket is for the same airspace, and notifies it once.
 use Rattle.std.specs.Prelude.{List, [], ◌∷◌, ◌++◌, Some, None}
 use Rattle.uss_intent.specs.declared.calls.DssReply.{DssReply}
 use Rattle.uss_intent.specs.declared.calls.DssReply.TheVariants as Replies
@@ -11,16 +11,16 @@ use Rattle.uss_law_world.specs.World.{Saying}
 use Rattle.uss_law_world.specs.Moves.{Move}
 use Rattle.uss_law_world.specs.Moves.{Move as Moves}
 use Rattle.uss_law_world.specs.Worked.{does, idle, deliver, asks, saying, second_ticket_put, the_second_ticket}
-use Rattle.uss_law_world.specs.Contested.{landed_told, recorded_owing, owing_book, hears}
+use Rattle.uss_law_world.specs.Contested.{landed_notifying, recorded_owing, owing_book, hears}
 
--- the first's book once the second was told
-abbrev pub told_book : List Entry
-told_book = owing_book ++ One.notified ∷ []
+-- the first's book once the second was notified
+abbrev pub notifying_book : List Entry
+notifying_book = owing_book ++ One.notified ∷ []
 
--- the second has its ticket, of which it doesn't hear; the first plans its flight. A sweep tells the second, which notes it; the next
+-- the second has its ticket, of which it doesn't hear; the first plans its flight. A sweep notifies the second, which notes it; the next
 -- sweep has nothing to do
-abbrev pub told : List Move
-told =
+abbrev pub notifying : List Move
+notifying =
     Moves.Now One.now
     ∷ Moves.Takes (Turns.Ask 2 One.ask) (does (Some One.opened) (One.sends second_ticket_put) Says.Nothing)
     ∷ deliver 1 idle
@@ -37,8 +37,8 @@ told =
     ∷ Moves.Takes (Turns.Sweep 1 0) (does None [] Says.Nothing)
     ∷ []
 
-abbrev pub told_replies : List DssReply
-told_replies = Replies.TicketMade the_second_ticket ∷ Replies.TicketMade One.the_ticket ∷ Replies.Found [] ∷ landed_told ∷ []
+abbrev pub notifying_replies : List DssReply
+notifying_replies = Replies.TicketMade the_second_ticket ∷ Replies.TicketMade One.the_ticket ∷ Replies.Found [] ∷ landed_notifying ∷ []
 
-abbrev pub told_sayings : List Saying
-told_sayings = saying One.planned ∷ record { supplier = 2; flight = 0; number = 0; said = Says.Noted } ∷ []
+abbrev pub notifying_sayings : List Saying
+notifying_sayings = saying One.planned ∷ record { supplier = 2; flight = 0; number = 0; said = Says.Noted } ∷ []

@@ -90,7 +90,7 @@ number_of x = x.owner.number
 -- base URL it names
 abbrev pub addressee : List Supplier → PeerCall → Option ℕ
 addressee suppliers (Calls.Details job flight manager base) = option_map number_of (find (λ (x : Supplier). same_text x.owner.name manager) suppliers)
-addressee suppliers (Calls.Notify job place base note) = option_map number_of (find (λ (x : Supplier). same_text x.owner.base base) suppliers)
+addressee suppliers (Calls.Notify job index base note) = option_map number_of (find (λ (x : Supplier). same_text x.owner.base base) suppliers)
 
 -- a call that a supplier hands out, as a message
 abbrev pub post_of : List Supplier → ℕ → Outgoing → Post

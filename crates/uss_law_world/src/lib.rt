@@ -11,11 +11,16 @@
 //! the laws. `proofs/Facts.antt` has what is kept by every move that is allowed, and `proofs/Parties.antt` what is kept by any; the
 //! proofs of the laws stand on nothing else.
 //!
-//! Which clauses of `MayStep` the laws need: all of them `legal` and `records`; `keys`, `hears`, `pair`, `notes` and `held` that intents
-//! stay apart, that landings are clear and that pairs are made; `held`, `removals` and `final` that final answers are true; `held`,
-//! `removals` and, for whose ticket it is, `ticket_removals` that refusals are settled and that an open job's landing stays recorded;
-//! `held` and `removals` that books agree with the service, that open jobs do, and which jobs have a landing. No law here needs
-//! `tickets`, `cause` and `goes_on`, or that a Held comes of a fitting reply to the very call. And only the law that calls were due says
+//! Which clauses of `MayStep` the laws need, besides `legal` and `records`, which all of them need:
+//!
+//! | Law | Clauses |
+//! |---|---|
+//! | intents stay apart, landings are clear, pairs are made | `keys`, `hears`, `pair`, `notes`, `held` |
+//! | final answers are true | `held`, `removals`, `final` |
+//! | refusals are settled, an open job's landing stays recorded | `held`, `removals`; for whose ticket it is, `ticket_removals` |
+//! | books agree with the service, open jobs do, which jobs have a landing | `held`, `removals` |
+//!
+//! No law here needs `tickets`, `cause` and `goes_on`, or that a Held comes of a fitting reply to the very call. And only the law that calls were due says
 //! that a Put is of an open job, a Remove of an open one, and when a ticket may be asked for and taken out (`ticket_calls`): those duties
 //! keep a supplier from getting in its own way.
 #![tactic(auto)]
@@ -40,7 +45,7 @@ ghost use Rattle.uss_law_world.specs.Worked.{said_in, replies_in, saying, found_
 ghost use Rattle.uss_law_world.specs.Contested.{given_up, given_up_replies, given_up_sayings};
 ghost use Rattle.uss_law_world.specs.WorkedEnds.{planned_replies, watched, watched_sayings, ended, ended_replies, ended_sayings};
 ghost use Rattle.uss_law_world.specs.WorkedStops.{failed, failed_sayings, stopped_twice, answered_twice, answered_twice_sayings};
-ghost use Rattle.uss_law_world.specs.WorkedSweeps.{told, told_replies, told_sayings};
+ghost use Rattle.uss_law_world.specs.WorkedSweeps.{notifying, notifying_replies, notifying_sayings};
 ghost use Rattle.uss_law_dss.specs.Orderly.{IsOrderly};
 ghost use Rattle.uss_law_world.specs.Invariants.{BooksAreLegal, EachCallWasDue, EachLandingIsTried, RepliesAreSo, KeysAreClear, OpenJobsAgree, JobsLandWhatTheyHold};
 ghost use Rattle.uss_law_world.specs.Claims.{EachIsIntended, NoneForbidden, EachAtMostOnce, FinalAnswersAreTrue, LandingsAreClear, RefusalsAreSettled, EachPairIsMade, OpenLandingsStay, OpenLandingsAreGot, BooksAgree};
@@ -211,12 +216,12 @@ pub fn an_answer_before_a_stop_is_kept()
     ensures said { said_in (run (start (owner ∷ [])) answered_twice) ≡ answered_twice_sayings }
 {}
 
-/// A worked run of two suppliers: a sweep tells the second of the first's landing, which the second notes; the next sweep has nothing to
+/// A worked run of two suppliers: a sweep notifies the second of the first's landing, which the second notes; the next sweep has nothing to
 /// do.
-pub fn a_landing_is_told_once()
-    ensures free { IsFree (start (owner ∷ second ∷ [])) told }
-    ensures replies { replies_in (run (start (owner ∷ second ∷ [])) told) ≡ told_replies }
-    ensures said { said_in (run (start (owner ∷ second ∷ [])) told) ≡ told_sayings }
+pub fn a_landing_is_notified_once()
+    ensures free { IsFree (start (owner ∷ second ∷ [])) notifying }
+    ensures replies { replies_in (run (start (owner ∷ second ∷ [])) notifying) ≡ notifying_replies }
+    ensures said { said_in (run (start (owner ∷ second ∷ [])) notifying) ≡ notifying_sayings }
 {}
 
 /// Up to 64 suppliers that are numbered from 1 on and named so, with one table of rules, are suppliers with names of their own: what is

@@ -1,7 +1,7 @@
 -- What a read of a source and a write to a sink do to the bytes, where these are told. This project's own.
 use Rattle.std.specs.Prelude.{◌≡◌, ℕ, ◌≤◌, ◌<◌, List, [], ◌++◌, length, take, drop, Option, Some, None, Result, IfOk, MatchResult}
 
--- A read took n of the bytes that were left: the first n, which stand at the front of the buffer. It took none
+-- A read took n of the bytes that were left: the first n, which stand at the start of the buffer. It took none
 -- only where the buffer is empty or nothing was left: a source that gives nothing has ended.
 pub record Takes (left : List ℕ) (after : Option (List ℕ)) (buffer filled : List ℕ) (n : ℕ) : Type 0 where
   pub available : n ≤ length left
@@ -16,7 +16,7 @@ pub record Reads {E : Type 0} (before after : Option (List ℕ)) (buffer filled 
   pub told : (left : List ℕ) → before ≡ Some left → MatchResult answer (Takes left after buffer filled) (λ _. after ≡ Some left)
   pub untold : before ≡ None → after ≡ None
 
--- what one write does: the sink takes bytes from the front, at least one of a piece that isn't empty; a fault
+-- what one write does: the sink takes bytes from the start, at least one of a piece that isn't empty; a fault
 -- takes none
 pub record Writes {E : Type 0} (before after : Option (List ℕ)) (bytes : List ℕ) (answer : Result ℕ E) : Type 0 where
   pub within : IfOk answer (λ n. n ≤ length bytes)
@@ -29,7 +29,7 @@ pub record Appended (left : List ℕ) (after : Option (List ℕ)) (old new : Lis
   pub rest : after ≡ Some (drop n left)
   pub ended : n ≡ 0 → left ≡ []
 
--- from what had been taken before, the sink took a front of the bytes
+-- from what had been taken before, the sink took a prefix of the bytes
 pub record TookFront (taken : List ℕ) (after : Option (List ℕ)) (bytes : List ℕ) : Type 0 where
   pub count : ℕ
   pub within : count ≤ length bytes

@@ -33,7 +33,7 @@ pub record LastBecomes (change : Talk → Talk) (talks : List Talk) (after : Opt
   pub were : talks ≡ earlier ++ last ∷ []
   pub are : after ≡ Some (earlier ++ change last ∷ [])
 
--- sending takes bytes from the front of the piece, at least one of a piece that isn't empty, over the stream
+-- sending takes bytes from the start of the piece, at least one of a piece that isn't empty, over the stream
 -- opened last; a fault takes none
 pub record Sends {E : Type 0} (before after : Option (List Talk)) (bytes : List ℕ) (answer : Result ℕ E) : Type 0 where
   pub within : IfOk answer (λ n. n ≤ length bytes)

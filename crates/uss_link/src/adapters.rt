@@ -131,7 +131,7 @@ fn opened<N: Net>(net: &N, host: &str, port: u16) -> io::Result<N::Stream> {
     Ok(stream)
 }
 
-/// Writes bytes from the front to an open stream.
+/// Writes bytes from the start to an open stream.
 fn send_over<W: Write>(stream: &mut Option<W>, bytes: &[u8]) -> io::Result<usize>
     ensures within { IfOk result (λ n. n ≤ length bytes.now) }
     ensures some { IfOk result (λ n. 0 < length bytes.now → 0 < n) }
@@ -145,7 +145,7 @@ fn send_over<W: Write>(stream: &mut Option<W>, bytes: &[u8]) -> io::Result<usize
     }
 }
 
-/// Reads bytes into the front of the buffer from an open stream.
+/// Reads bytes into the start of the buffer from an open stream.
 fn receive_over<R: Read>(stream: &mut Option<R>, buffer: &mut [u8]) -> io::Result<usize>
     ensures { IfOk result (λ n. n ≤ length buffer.old) }
 {

@@ -25,14 +25,14 @@ pub trait Dial {
         ensures opened { Reaches (talks self.old) (talks self.new) host.now port result }
         ensures stream { Opens (is_open self.old) (is_open self.new) result };
 
-    /// Sends bytes from the front of the piece, and says how many. To take none of a piece that isn't empty is a
+    /// Sends bytes from the start of the piece, and says how many. To take none of a piece that isn't empty is a
     /// counted fault, and so is sending while no stream is open.
     fn send(&mut self, bytes: &[u8]) -> Result<usize, DialFault>
         ensures counts { Counts (faults self.old) (faults self.new) result }
         ensures bytes { Sends (talks self.old) (talks self.new) bytes.now result }
         ensures stream { Speaks (is_open self.old) (is_open self.new) result };
 
-    /// Receives bytes into the front of the buffer, and says how many. None in a buffer that isn't empty is the
+    /// Receives bytes into the start of the buffer, and says how many. None in a buffer that isn't empty is the
     /// end of the stream. Receiving while no stream is open is a counted fault.
     fn receive(&mut self, buffer: &mut [u8]) -> Result<usize, DialFault>
         ensures counts { Counts (faults self.old) (faults self.new) result }
@@ -46,7 +46,7 @@ pub trait Dial {
         ensures stream { Closes (is_open self.old) (is_open self.new) };
 }
 
-/// Sends all the bytes over the open stream. On a fault a front of them was sent.
+/// Sends all the bytes over the open stream. On a fault a prefix of them was sent.
 pub fn send_all<G: Dial>(dial: &mut G, bytes: &[u8]) -> Result<(), DialFault>
     ensures counts { Counts (G.faults dial.old) (G.faults dial.new) result }
     ensures sent { (talks : List Talk) → G.talks dial.old ≡ Some talks → OnOk result (SentFront talks (G.talks dial.new) bytes.now (length bytes.now)) }

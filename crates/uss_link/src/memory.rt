@@ -193,7 +193,7 @@ impl Sink for MemorySink {
 
     ghost taken = { λ s. Some s.taken };
 
-    /// A call fails where its number is listed, and for want of memory.
+    /// A call fails where its number is listed, and when memory runs out.
     fn write(&mut self, bytes: &[u8]) -> Result<usize, WriteFault>
         ensures counts { Counts self.old.faults self.new.faults result }
         ensures bytes { Writes (Some self.old.taken) (Some self.new.taken) bytes.now result }

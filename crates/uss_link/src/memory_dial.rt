@@ -265,7 +265,7 @@ fn next_reply(alloc: Global, replies: &mut Vec<Reply>) -> Reply
     }
 }
 
-/// Puts the last stream behind those before it.
+/// Puts the last stream after those before it.
 fn put_away(past: &mut Vec<Conversation>, last: &mut Option<Conversation>) -> Result<(), AllocError>
     ensures done { OnOk result (past.new.items ≡ past.old.items ++ option_to_list last.old) }
     ensures none { OnOk result (last.new ≡ None) }

@@ -14,14 +14,14 @@ pub trait Sink {
     /// The bytes that the sink has taken, where it tells them. What is told stays told.
     ghost taken: { Self → Option (List ℕ) };
 
-    /// Writes bytes from the front of the piece, and says how many. To take none of a piece that isn't empty
+    /// Writes bytes from the start of the piece, and says how many. To take none of a piece that isn't empty
     /// is a counted fault.
     fn write(&mut self, bytes: &[u8]) -> Result<usize, WriteFault>
         ensures counts { Counts (faults self.old) (faults self.new) result }
         ensures bytes { Writes (taken self.old) (taken self.new) bytes.now result };
 }
 
-/// Writes all the bytes. On a fault a front of them was written.
+/// Writes all the bytes. On a fault a prefix of them was written.
 pub fn write_all<K: Sink>(output: &mut K, bytes: &[u8]) -> Result<(), WriteFault>
     ensures counts { Counts (K.faults output.old) (K.faults output.new) result }
     ensures written { (taken : List ℕ) → K.taken output.old ≡ Some taken → OnOk result (K.taken output.new ≡ Some (taken ++ bytes.now)) }

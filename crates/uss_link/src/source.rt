@@ -16,8 +16,8 @@ pub trait Source {
     /// The bytes that are left to be read, where the source tells them. What is told stays told.
     ghost left: { Self → Option (List ℕ) };
 
-    /// Reads bytes into the front of the buffer, and says how many. None in a buffer that isn't empty is the
-    /// end. Of the buffer behind these bytes nothing is said.
+    /// Reads bytes into the start of the buffer, and says how many. None in a buffer that isn't empty is the
+    /// end. Of the buffer after these bytes nothing is said.
     fn read(&mut self, buffer: &mut [u8]) -> Result<usize, ReadFault>
         ensures counts { Counts (faults self.old) (faults self.new) result }
         ensures bytes { Reads (left self.old) (left self.new) buffer.old buffer.new result };

@@ -1,4 +1,4 @@
--- Words with spaces between them, and each behind a space.
+-- Words with spaces between them, and each after a space.
 use Rattle.std.proofs.Common.{◌≡◌, ℕ, List, [], ◌∷◌, ◌++◌, sym, ap, append-nil}
 use Rattle.std.specs.Prelude.{codes, map}
 use Rattle.std.specs.List.{flat_map}

@@ -18,7 +18,7 @@ sentence [] = []
 sentence (word ∷ []) = word
 sentence (word ∷ next ∷ words) = word ++ (codes " " ++ sentence (next ∷ words))
 
--- the word of an item, behind a space
+-- the word of an item, after a space
 abbrev pub behind : {A : Type 0} → (A → List ℕ) → A → List ℕ
 behind word item = codes " " ++ word item
 
@@ -76,7 +76,7 @@ refusal_words (Refusal.BookFull used need) = codes "310" ∷ decimal used ∷ de
 refusal_words (Refusal.NotAsked last) = codes "312" ∷ decimal last ∷ []
 refusal_words (Refusal.OldPosition last) = codes "313" ∷ signed_decimal last ∷ []
 
--- the words of an outcome; want of memory has none
+-- the words of an outcome; out of memory has none
 abbrev pub outcome_words : Outcome → List (List ℕ)
 outcome_words (Outcome.Answer answer) = answer_words answer
 outcome_words (Outcome.Refused refusal) = codes "refused" ∷ refusal_words refusal

@@ -1,7 +1,7 @@
 use std::fmt;
 use uss_intent::FlightId;
 
-/// Flights, each behind a space.
+/// Flights, each after a space.
 #[derive(Clone, Copy)]
 struct EachFlight<'a> {
     flights: &'a [FlightId],
@@ -23,7 +23,7 @@ impl<'a> fmt::Display for EachFlight<'a> {
     }
 }
 
-/// How many flights there are, and each behind a space.
+/// How many flights there are, and each after a space.
 #[derive(Clone, Copy)]
 pub struct CountedFlights<'a> {
     pub flights: &'a [FlightId],
@@ -45,7 +45,7 @@ impl<'a> fmt::Display for CountedFlights<'a> {
     }
 }
 
-/// Tags, each behind a space.
+/// Tags, each after a space.
 #[derive(Clone, Copy)]
 struct EachTag<'a> {
     tags: &'a [u64],
@@ -66,7 +66,7 @@ impl<'a> fmt::Display for EachTag<'a> {
     }
 }
 
-/// How many tags there are, and each behind a space.
+/// How many tags there are, and each after a space.
 #[derive(Clone, Copy)]
 pub struct CountedTags<'a> {
     pub tags: &'a [u64],

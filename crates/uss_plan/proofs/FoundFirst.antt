@@ -6,7 +6,7 @@ use Rattle.uss_plan.specs.Firsts.{first_from, first_passing}
 use Rattle.uss_plan.specs.Best.{IsFirst, NonePasses, IsFirstOrNone}
 
 module _ {X : Type 0} (test : X → Bool) where
-  -- what is found from a place on stands in the list as far behind its start
+  -- what is found from a place on stands in the list as far after its start
   abbrev IsFoundFrom : ℕ → List X → Option (ℕ × X) → Type 0
   IsFoundFrom n list (Some found) = (k : ℕ) × (found.0 ≡ n + k) × IsFirst test list k found.1
   IsFoundFrom n list None = NonePasses test list

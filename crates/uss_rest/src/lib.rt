@@ -1,5 +1,5 @@
-//! What the statuses and error bodies of responses mean: of the refusals of the discovery service, both ways, and of the refusals of
-//! HTTP and of messages. Servers write them, and clients read the first.
+//! The calls of the discovery service as requests, their replies and refusals as responses, and what a client makes of a response; and the
+//! responses to the refusals of HTTP and of messages.
 //!
 //! ```
 //! // A server of the discovery service, which refused a call:

@@ -28,7 +28,7 @@ method_here m rows i d lt has = ap (with_method m) (drop-cons rows i d lt) ∙ a
 pub method_later : (m : List ℕ) (rows : List RouteRow) (i : ℕ) (d : RouteRow) → i < length rows → bytes_eq (method_of (get_or rows i d)) m ≡ false → with_method m (drop i rows) ≡ with_method m (drop (i + 1) rows)
 method_later m rows i d lt has = rw add-one (ap (with_method m) (drop-cons rows i d lt) ∙ ap (λ (t : Bool). if t then Some (get_or rows i d) else with_method m (drop (suc i) rows)) has)
 
--- one more method behind others
+-- one more method after others
 pub joined_more : (front : List ℕ) (rows : List RouteRow) (i : ℕ) (d : RouteRow) → i < length rows → front ++ flat_map (λ r. codes ", " ++ method_of r) (take (i + 1) rows) ≡ (((front ++ flat_map (λ r. codes ", " ++ method_of r) (take i rows)) ++ codes ", ") ++ method_of (get_or rows i d))
 joined_more front rows i d lt =
     let more = λ (s : RouteRow). codes ", " ++ method_of s in

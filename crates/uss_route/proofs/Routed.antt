@@ -25,7 +25,7 @@ use Rattle.uss_route.proofs.Meaning.{rank, row_begins, no_tag, in_table, any_fro
 
 -- ---- with a tag and without
 
--- the path behind the tag is one of the row, and the row may stand behind one
+-- the path after the tag is one of the row, and the row may stand after one
 pub record IsPlaced (row : RouteRow) (parameters : List (List ℕ)) (path : List ℕ) : Type 0 where
   pub place : IsPathOf row parameters (untagged path)
   pub may : (is_of_a_supplier row || not (is_tagged path)) ≡ true
@@ -41,7 +41,7 @@ plain r ps path is =
     let other : bytes_eq (take 3 path) (codes "/a/") ≡ false = ap (λ (p : List ℕ). bytes_eq (take 3 p) (codes "/a/")) is.spelled ∙ no_tag r (parameters_text ps) in
     ap (λ (t : List ℕ). nat_lt 0 (length t)) (tagged_by path false other)
 
--- a tag and what stands behind it
+-- a tag and what stands after it
 tag_is : (tag rest : List ℕ) → IsParameter tag → begins rest → tag_of (codes "/a/" ++ (tag ++ rest)) ≡ tag
 tag_is tag rest is begin = segment_in_front tag rest is.free begin
 
@@ -332,7 +332,7 @@ meant_routed r ps path is first text all =
     ∙ route_text (method_of r) path true text
     ∙ route_on_meant path r ps (record { served = is; first = first })
 
--- behind a tag no path of a row with parameters is written out for another
+-- after a tag no path of a row with parameters is written out for another
 tagged_first : (r : RouteRow) (ps : List (List ℕ)) (tag path : List ℕ) → is_of_a_supplier r ≡ true → IsParameter tag → IsPathOf r ps path → IsWrittenOut (codes "/a/" ++ (tag ++ path)) → ps ≡ []
 tagged_first r ps tag path supplier is rested w =
     let whole = codes "/a/" ++ (tag ++ path) in

@@ -18,7 +18,7 @@ NoSlash b = (b == 47) ≡ false
 pub is_slash : (b : ℕ) → (b == 47) ≡ true → b ≡ 47
 is_slash b e = grind (arith, nat_tests)
 
--- the first segment and what stands behind it
+-- the first segment and what stands after it
 segment_at : (bytes : List ℕ) (b : ℕ) (t : Bool) → (b == 47) ≡ t → segment (b ∷ bytes) ≡ cond (not t) (b ∷ segment bytes) []
 segment_at bytes b t e = take_while-cons (λ c. not (c == 47)) b bytes ∙ ap (λ (u : Bool). cond (not u) (b ∷ segment bytes) []) e
 
@@ -46,7 +46,7 @@ abbrev pub begins : List ℕ → Type 0
 begins [] = Unit {0}
 begins (b ∷ bytes) = b ≡ 47
 
--- the segment in front of such bytes
+-- the segment before such bytes
 pub segment_in_front : (p rest : List ℕ) → All NoSlash p → begins rest → segment (p ++ rest) ≡ p
 segment_in_front [] [] all is = refl
 segment_in_front [] (b ∷ rest) all is = segment_at rest b true (slash_is b is)

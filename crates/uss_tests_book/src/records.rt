@@ -28,9 +28,9 @@ pub(crate) enum Coding {
     Trial,
     Further,
     Held,
-    // The second of the two was told.
+    // The second of the two was notified.
     Sent,
-    // An end of flight 7 after that, and that it ended, with nobody to tell.
+    // An end of flight 7 after that, and that it ended, with nobody to notify.
     Next,
     Ended,
     // A record of an attempt that wasn't made, that the job is to end as cancelled or with a stale key, that it ended so or with a

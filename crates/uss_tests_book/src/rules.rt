@@ -1,81 +1,54 @@
-// Which entry is due after those of a book, by the list of its entries.
-use crate::plain::Plain;
-use crate::volumes::{EARLY, square};
-use std::alloc::Global;
+// Which entry is due after those of a book.
+use crate::bytes::{GONE, TICKET, TRIAL};
+use crate::index::enter;
+use crate::records::{Coding, bytes_of};
+use std::alloc::{AllocError, Global};
+use std::process::Abort;
 use std::test::Fail;
+use uss_book_codec::read;
+use uss_book_index::Entries;
 use uss_book_rules::{
-    Tells, is_due, may_decide, may_end, may_hold, may_open, may_open_ticket, may_retire, may_tell,
+    Tells, is_due, may_decide, may_end, may_hold, may_open, may_open_ticket, may_retire, may_send,
     may_try,
 };
-use uss_event::{Ending, Entry, FlightAsk, Owner, Proposal, Proposals, RuleTable, Wish};
-use uss_intent::{Base, Name, Ovn, Sequence, State, Subscriber, Volumes, ticket_id};
+use uss_event::{Ending, Entry, FlightAsk, Wish};
+use uss_intent::Sequence;
 
-fn owner(alloc: Global) -> Result<Entry, Fail> {
-    Ok(Entry::Owner(Owner {
-        number: 1,
-        name: Name::of(alloc, b"uss1")?,
-        base: Base::of(alloc, b"http://uss1.test")?,
-        table: RuleTable::of(alloc, &[])?,
-    }))
+// Flight 7 is planned; it isn't changed, since what it needs to know is stale; it ends. The bytes weren't made by this program.
+fn whole() -> [&'static [u8]; 13] {
+    [
+        bytes_of(Coding::Owner),
+        bytes_of(Coding::Plan),
+        TICKET,
+        TRIAL,
+        bytes_of(Coding::Held),
+        // job 2: another plan, of one round
+        b"\x02\0\0\0\0\0\0\0\x02\x0d#L\xcfRC\0\0\0\0\0\0\0\0\0\x07\0\0\0\0\0\0\0\x03\x01\x01\0\x05\x01\x01\x01\0\0\0\x03\0\0\0\0\0\0\0\0\0\0\0\0\0\0\0\0\0\0\0\0\0\0\0\x0a\0\0\0\0\0\0\0\0\xff\xff\xff\xff\x94\xb6.\0\xff\xff\xff\xff\xff\xff\xff\xfb\xff\xff\xff\xff\xff\xff\xff\xff\0\0\0\0\0\x01\xd4\xc0\x0d#L\xcfRC\0\0\x0d#L\xcfRC\0\x01\0",
+        b"\x03\0\0\0\0\0\0\0\x02",
+        b"\x04\0\0\0\0\0\0\0\x02\0\0\0\0\0\0\0\x02\0\x01\0\0\0\x14ovn-0000000000000001\0\0\0\0",
+        b"\x06\0\0\0\0\0\0\0\x02\x02\0\0\0\0",
+        b"\x07\0\0\0\0\0\0\0\x02\x02\0\0\0\0",
+        // job 3: the end
+        b"\x02\0\0\0\0\0\0\0\x03\x0d#L\xcfRC\0\0\0\0\0\0\0\0\0\x07\0\0\0\0\0\0\0\x04\x02",
+        b"\x07\0\0\0\0\0\0\0\x03\x04\0\0\0\0",
+        GONE,
+    ]
 }
 
-fn proposals(alloc: Global) -> Result<Proposals, Fail> {
-    let volumes = square(alloc)?;
-    let mut proposals = Sequence::new(alloc);
-    proposals.push(Proposal {
-        volumes,
-        off_nominal: Volumes::new(alloc),
-    })?;
-    Ok(proposals)
-}
-
-/// A wish to be in the state by one alternative.
-fn put(alloc: Global, to: State, rounds: u8) -> Result<Wish, Fail> {
-    Ok(Wish::Put {
-        to,
-        priority: 0,
-        rounds,
-        proposals: proposals(alloc)?,
-    })
-}
-
-/// A job for flight 7.
-fn opened(job: u64, number: u64, wish: Wish) -> Entry {
-    Entry::Opened {
-        job,
-        moment: EARLY,
-        ask: FlightAsk {
-            flight: 7,
-            number,
-            wish,
-        },
+fn entry_of(rt: &impl Abort, alloc: Global, coding: &[u8]) -> Result<Entry, AllocError> {
+    match read(alloc, coding)? {
+        Some(entry) => Ok(entry),
+        None => rt.abort(),
     }
 }
 
-fn pending(alloc: Global, job: u64, tag: u64, previous: Option<Ovn>) -> Entry {
-    Entry::Pending {
-        job,
-        tag,
-        alternative: 0,
-        previous,
-        key: Sequence::new(alloc),
+// A book of the first so many entries, or of fewer where one of them may not follow.
+fn first(alloc: Global, count: usize) -> Result<Entries, AllocError> {
+    let mut book = Entries::new(alloc);
+    for coding in whole().iter().take(count) {
+        enter(alloc, &mut book, coding)?;
     }
-}
-
-fn held(alloc: Global) -> Result<Entry, Fail> {
-    let mut owed = Sequence::new(alloc);
-    owed.push(Subscriber {
-        base: Base::of(alloc, b"http://uss2.test")?,
-        ticket: ticket_id(2, 1),
-        index: 1,
-    })?;
-    Ok(Entry::Held {
-        job: 1,
-        tag: 1,
-        ovn: Ovn::of(alloc, b"ovn-0000000000000001")?,
-        version: 1,
-        owed,
-    })
+    Ok(book)
 }
 
 fn stale(alloc: Global) -> Ending {
@@ -84,54 +57,15 @@ fn stale(alloc: Global) -> Ending {
     }
 }
 
-/// A flight is planned; it isn't activated, since what it needs to know is stale; it ends.
-fn whole_book(alloc: Global) -> Result<Vec<Entry>, Fail> {
-    let mut book = Vec::new(alloc);
-    book.push(owner(alloc)?)?;
-    book.push(opened(1, 3, put(alloc, State::Accepted, 2)?))?;
-    book.push(Entry::TicketOpen { job: 1 })?;
-    book.push(pending(alloc, 1, 1, None))?;
-    book.push(held(alloc)?)?;
-    book.push(opened(2, 4, put(alloc, State::Activated, 1)?))?;
-    book.push(Entry::TicketOpen { job: 2 })?;
-    let previous = Ovn::of(alloc, b"ovn-0000000000000001")?;
-    book.push(pending(alloc, 2, 2, Some(previous)))?;
-    book.push(Entry::Deciding {
-        job: 2,
-        end: stale(alloc),
-    })?;
-    book.push(Entry::Done {
-        job: 2,
-        end: stale(alloc),
-    })?;
-    book.push(opened(3, 5, Wish::End))?;
-    book.push(Entry::Done {
-        job: 3,
-        end: Ending::Ended {
-            owed: Sequence::new(alloc),
-        },
-    })?;
-    book.push(Entry::TicketGone { job: 1 })?;
-    Ok(book)
-}
-
-/// These entries alone, or all where there are fewer.
-fn part(entries: &[Entry], start: usize, end: usize) -> Plain<'_> {
-    Plain {
-        entries: entries.get(start..end).unwrap_or(entries),
-    }
-}
-
 #[test]
 fn each_entry_is_due_at_its_place_and_at_no_other(rt: HostRuntime) -> Result<(), Fail> {
-    let whole = whole_book(rt.alloc())?;
-    let entries = whole.as_slice();
-    for place in 0..entries.len() {
-        let book = Plain {
-            entries: &entries[..place],
-        };
-        for at in 0..entries.len() {
-            assert_eq!(rt; is_due(&book, &entries[at]), at == place);
+    let codings = whole();
+    for place in 0..codings.len() {
+        let book = first(rt.alloc(), place)?;
+        assert_eq!(rt; book.len(), place);
+        for at in 0..codings.len() {
+            let entry = entry_of(&rt, rt.alloc(), codings[at])?;
+            assert_eq!(rt; is_due(&book, &entry), at == place);
         }
     }
     Ok(())
@@ -141,18 +75,17 @@ fn each_entry_is_due_at_its_place_and_at_no_other(rt: HostRuntime) -> Result<(),
 fn a_job_goes_its_way(rt: HostRuntime) -> Result<(), Fail> {
     let alloc = rt.alloc();
     let none = Sequence::new(alloc);
-    let whole = whole_book(alloc)?;
-    let opened = part(&whole, 0, 2);
+    let opened = first(alloc, 2)?;
     assert!(rt; may_open_ticket(&opened, 1));
     assert!(rt; !may_open_ticket(&opened, 2));
     assert!(rt; !may_try(&opened, 1, 1, 0, &None, &none));
     assert!(rt; may_end(&opened, 1, &Ending::Cancelled));
     assert!(rt; !may_end(&opened, 1, &stale(alloc)));
-    let heard = part(&whole, 0, 3);
+    let heard = first(alloc, 3)?;
     assert!(rt; may_try(&heard, 1, 1, 0, &None, &none));
     assert!(rt; !may_try(&heard, 1, 2, 0, &None, &none));
     assert!(rt; !may_try(&heard, 1, 1, 1, &None, &none));
-    let tried = part(&whole, 0, 4);
+    let tried = first(alloc, 4)?;
     assert!(rt; may_hold(&tried, 1, 1));
     assert!(rt; !may_hold(&tried, 1, 2));
     assert!(rt; may_decide(&tried, 1, &Ending::Cancelled));
@@ -163,12 +96,10 @@ fn a_job_goes_its_way(rt: HostRuntime) -> Result<(), Fail> {
 
 #[test]
 fn a_closed_job_keeps_its_ticket_while_it_is_needed(rt: HostRuntime) -> Result<(), Fail> {
-    let alloc = rt.alloc();
-    let whole = whole_book(alloc)?;
-    let recorded = part(&whole, 0, 5);
+    let recorded = first(rt.alloc(), 5)?;
     assert!(rt; !may_retire(&recorded, 1));
-    assert!(rt; may_tell(&recorded, 1, 0));
-    assert!(rt; !may_tell(&recorded, 1, 1));
+    assert!(rt; may_send(&recorded, 1, 0));
+    assert!(rt; !may_send(&recorded, 1, 2));
     assert!(rt; recorded.open_job(7).is_none());
     assert!(rt; recorded.last(7).is_some());
     assert!(rt; recorded.owner().is_some());
@@ -179,21 +110,20 @@ fn a_closed_job_keeps_its_ticket_while_it_is_needed(rt: HostRuntime) -> Result<(
 #[test]
 fn a_flight_is_asked_for_again_once_its_job_is_closed(rt: HostRuntime) -> Result<(), Fail> {
     let alloc = rt.alloc();
-    let whole = whole_book(alloc)?;
     let ask = |number| FlightAsk {
         flight: 7,
         number,
         wish: Wish::End,
     };
-    let open = part(&whole, 0, 4);
-    assert!(rt; !may_open(&open, 2, &ask(4)));
-    let recorded = part(&whole, 0, 5);
-    assert!(rt; may_open(&recorded, 2, &ask(4)));
-    assert!(rt; !may_open(&recorded, 2, &ask(3)));
-    assert!(rt; !may_open(&recorded, 3, &ask(4)));
-    let unowned = part(&whole, 1, 5);
-    assert!(rt; !may_open(&unowned, 2, &ask(4)));
-    let ended = Plain { entries: &whole };
+    let open = first(alloc, 4)?;
+    assert!(rt; !may_open(&open, 2, &ask(3)));
+    let recorded = first(alloc, 5)?;
+    assert!(rt; may_open(&recorded, 2, &ask(3)));
+    assert!(rt; !may_open(&recorded, 2, &ask(2)));
+    assert!(rt; !may_open(&recorded, 3, &ask(3)));
+    let unowned = first(alloc, 0)?;
+    assert!(rt; !may_open(&unowned, 1, &ask(3)));
+    let ended = first(alloc, 13)?;
     assert!(rt; !may_open(&ended, 4, &ask(6)));
     Ok(())
 }

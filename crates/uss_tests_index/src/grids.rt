@@ -16,7 +16,7 @@ fn over(x1: i64, y1: i64, x2: i64, y2: i64) -> Box4 {
     }
 }
 
-// Puts a box in, in place of the one that stands there. For want of memory nothing changes, so it can be tried again: run the tests with
+// Puts a box in, in place of the one that stands there. Out of memory, nothing changes, so it can be tried again: run the tests with
 // one allocation failing to see it.
 fn put(rt: &impl Abort, grid: &mut Grid, id: u64, b: Box4) -> Result<(), Fail> {
     let _ = grid.remove(id);
@@ -29,7 +29,7 @@ fn put(rt: &impl Abort, grid: &mut Grid, id: u64, b: Box4) -> Result<(), Fail> {
     Ok(())
 }
 
-// The candidates are these, and so many boxes are looked at. For want of memory there are none, and it can be tried again.
+// The candidates are these, and so many boxes are looked at. Out of memory, there are none, and it can be tried again.
 fn finds(
     rt: &impl Abort,
     grid: &Grid,

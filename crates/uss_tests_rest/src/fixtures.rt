@@ -73,7 +73,7 @@ pub fn ticket_in(alloc: Global, number: u64, area: Volume4) -> Result<Ticket, Fa
     })
 }
 
-/// One who is to be told.
+/// One who is to be notified.
 pub fn told(alloc: Global) -> Result<Owed, Fail> {
     let mut owed = Owed::new(alloc);
     owed.push(Subscriber {

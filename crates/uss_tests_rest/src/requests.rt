@@ -43,7 +43,7 @@ fn put(alloc: Global, ovn: Option<Ovn>) -> Result<DssAsk, Fail> {
     })
 }
 
-/// Whether the call goes out with this method and path, behind the service's own path, by its client, and with a message just where the
+/// Whether the call goes out with this method and path, after the service's own path, by its client, and with a message just where the
 /// method has one.
 fn goes_out(alloc: Global, ask: &DssAsk, method: &str, path: &str) -> Result<bool, Fail> {
     let client = own(alloc)?;

@@ -6,7 +6,7 @@ use Rattle.std.proofs.lemmas.List.{take-append-drop}
 use Rattle.memchr.specs.Find.{is_byte}
 use Rattle.uss_text.specs.Lines.{lines_of, words_of, IsFree, IsCut}
 
--- a line in front of an LF, and the lines behind it
+-- a line before an LF, and the lines after it
 pub lines_of-cut : (front rest : List ℕ) → IsFree 10 front → lines_of (front ++ 10 ∷ rest) ≡ front ∷ lines_of rest
 lines_of-cut [] rest free = refl
 lines_of-cut (b ∷ bs) rest free = rw (free.0, lines_of-cut bs rest free.1) refl

@@ -43,7 +43,7 @@ all_true : (w : List ℕ) → AllDigits 10 w → list_all is_ascii_digit w ≡ t
 all_true [] h = refl
 all_true (c ∷ cs) h = both (is_ascii_digit c) (list_all is_ascii_digit cs) (digit_true c (digit_from_value c h.0)) (all_true cs h.1)
 
--- no zero stands in front of other digits
+-- no zero stands before other digits
 lead_by : (n f : ℕ) (t : Bool) → (f == 48) ≡ t → (f ≡ 48 → n ≡ 1) → ((n == 1) || not t) ≡ true
 lead_by n f true is one = rw (equal_true n 1 (one (equal_from f 48 is))) refl
 lead_by n f false is one = or_right (n == 1)

@@ -48,7 +48,7 @@ digits_ascii [] digits i = lit< tt
 digits_ascii (c ∷ cs) digits zero = let r : IsInRange 48 57 c = digit_from_value c digits.0 in omega arith
 digits_ascii (c ∷ cs) digits (suc i) = digits_ascii cs digits.1 i
 
--- a word that is a number has no `+` in front
+-- a word that is a number has no leading `+`
 pub no_plus : (w : List ℕ) → AllDigits 10 w → get_or w 0 0 ≢ 43
 no_plus [] digits = λ e. omega arith
 no_plus (c ∷ cs) digits = λ e. (let r : IsInRange 48 57 c = digit_from_value c digits.0 in omega arith)

@@ -9,7 +9,7 @@ use Rattle.uss_text.specs.Reading.{◌>>=◌, each_behind}
 use Rattle.uss_text.specs.Discover.{discover_line, discover_script}
 use Rattle.uss_text.proofs.Made.{lt_true, lt_false}
 
--- the values in front of those that are read
+-- the values before those that are read
 abbrev pub in_front : {A : Type 0} → List A → Result (List A) ScriptRefusal → Result (List A) ScriptRefusal
 in_front xs (Ok others) = Ok (xs ++ others)
 in_front xs (Err e) = Err e

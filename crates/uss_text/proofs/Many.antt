@@ -1,9 +1,9 @@
--- So many values, one behind another.
+-- So many values, one after another.
 use Rattle.std.proofs.Common.{◌≡◌, ℕ, suc, ◌-◌, ◌<◌, List, [], ◌∷◌, ◌++◌, Result, Ok, Err, refl, sym, ap, ◌∙◌, arith, append_assoc, append-nil}
 use Rattle.uss_text.specs.declared.refusal.WordRefusal.{WordRefusal}
 use Rattle.uss_text.specs.Reading.{◌>>=◌, Words, Read, read, Reader, many_at}
 
--- the values in front of those that are read
+-- the values before those that are read
 abbrev pub in_front : {A : Type 0} → List A → Result (Read (List A)) WordRefusal → Result (Read (List A)) WordRefusal
 in_front xs (Ok r) = Ok (read (xs ++ r.value) r.rest)
 in_front xs (Err e) = Err e

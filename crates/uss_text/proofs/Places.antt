@@ -13,7 +13,7 @@ use Rattle.uss_text.specs.Volumes.{place_at, poly_at, rect_at, vertices_of, vert
 use Rattle.uss_text.proofs.Made.{lt_true, lt_false}
 use Rattle.uss_text.proofs.Many.{in_front, step_from, stop_from, end_from}
 
--- what is taken in front is taken again
+-- what is taken first is taken again
 take_again : (n : ℕ) (xs ys : List Place) → take n (take n xs ++ ys) ≡ take n (xs ++ ys)
 take_again zero xs ys = refl
 take_again (suc n) [] ys = refl

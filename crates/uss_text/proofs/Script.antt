@@ -15,7 +15,7 @@ use Rattle.uss_text.specs.Refusals.{at_line, refusal_at}
 use Rattle.uss_text.specs.Reading.{◌>>=◌}
 use Rattle.uss_text.specs.Conflict.{Lists, lists, onto_side, with_first, behind_side, with_last, conflict_line, lists_behind, conflict_script}
 
--- the lists in front of those that are read
+-- the lists before those that are read
 abbrev pub in_front : Lists → Result Lists ScriptRefusal → Result Lists ScriptRefusal
 in_front ls (Ok others) = Ok (lists (ls.a ++ others.a) (ls.b ++ others.b))
 in_front ls (Err e) = Err e
@@ -73,7 +73,7 @@ stop_from all n left line lines ls e so_far parts first =
 pub end_from : (all : Result Lists ScriptRefusal) (n : ℕ) (left : List (List ℕ)) (ls : Lists) → SoFar all (lists_behind n left) ls → left ≡ [] → all ≡ Ok ls
 end_from all n left ls so_far none = end_with all n ls (let P : List (List ℕ) → Type 0 = λ ws. SoFar all (lists_behind n ws) ls in subst P none so_far)
 
--- a refusal that isn't want of memory isn't it as a word's either
+-- a refusal that isn't out of memory isn't it as a word's either
 pub word_real : (n : ℕ) (e : WordRefusal) (r : ScriptRefusal) → r ≡ refusal_at n e → (r ≡ ScriptMemory → ⊥) → e ≡ WordMemory → ⊥
 word_real n e r is real memory = real (is ∙ ap (refusal_at n) memory)
 

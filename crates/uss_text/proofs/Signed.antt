@@ -52,7 +52,7 @@ plain_value (c ∷ cs) digits = rw (no_minus c (digit_from_value c digits.0), wi
 natural_read : (w : List ℕ) → is_natural w ≡ true → integer_of w ≡ Some (pos (digits_value 10 w))
 natural_read w h = rw (natural_integer w h) (ap Some (plain_value w (natural_numeral w h).1))
 
--- ---- digits behind a sign
+-- ---- digits after a sign
 behind_minus : (n : ℕ) → suc n < 2 ^ 64 → 45 ∷ decimal (suc n) ≡ codes "-0" → ⊥
 behind_minus n small is =
     let zero_text : decimal (suc n) ≡ 48 ∷ [] = cc in

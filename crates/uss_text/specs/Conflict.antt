@@ -52,7 +52,7 @@ behind_side B v ls = lists ls.a (ls.b ++ v ∷ [])
 abbrev pub with_last : Lists → Placed → Lists
 with_last ls placed = behind_side placed.side placed.volume ls
 
--- the lists of the lines behind so many others, or the refusal of the first of them that is refused
+-- the lists of the lines after so many others, or the refusal of the first of them that is refused
 unfoldable pub lists_behind : ℕ → List (List ℕ) → Result Lists ScriptRefusal
 lists_behind n [] = Ok (lists [] [])
 lists_behind n (line ∷ lines) = do

@@ -6,7 +6,7 @@ use Rattle.std.specs.Borrow.{Bor}
 abbrev pub most_bytes : ℕ
 most_bytes = 67108864
 
--- the byte in front of the first of the pieces
+-- the byte before the first of the pieces
 abbrev pub onto_first : ℕ → List (List ℕ) → List (List ℕ)
 onto_first b [] = (b ∷ []) ∷ []
 onto_first b (piece ∷ pieces) = (b ∷ piece) ∷ pieces
@@ -31,7 +31,7 @@ abbrev pub IsFree : ℕ → List ℕ → Type 0
 IsFree separator [] = Unit {0}
 IsFree separator (b ∷ bs) = ((b == separator) ≡ false) × IsFree separator bs
 
--- the bytes in front of the first separator and those behind it
+-- the bytes before the first separator and those after it
 pub record IsCut (separator : ℕ) (bytes front rest : List ℕ) : Type 0 where
   pub parts : bytes ≡ front ++ separator ∷ rest
   pub free : IsFree separator front

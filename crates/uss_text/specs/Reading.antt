@@ -17,7 +17,7 @@ abbrev pub ◌>>=◌ : {A B E : Type 0} → Result A E → (A → Result B E) �
 abbrev pub Words : Type 0
 Words = List (List ℕ)
 
--- a value and the words behind it
+-- a value and the words after it
 pub record Read (A : Type 0) : Type 0 where
   pub value : A
   pub rest : Words
@@ -89,7 +89,7 @@ by_word value_of ws = do
   value ← value_of word.value
   Ok (read value word.rest)
 
--- so many values, one behind another
+-- so many values, one after another
 unfoldable pub many_at : {A : Type 0} → Reader A → ℕ → Reader (List A)
 many_at reader zero ws = Ok (read [] ws)
 many_at reader (suc n) ws = do
@@ -102,7 +102,7 @@ unfoldable pub end_at : Words → Result (Unit {0}) WordRefusal
 end_at [] = Ok tt
 end_at (w ∷ ws) = Err BadLine
 
--- what the lines say that stand behind so many others, or the refusal of the first of them that is refused
+-- what the lines say that stand after so many others, or the refusal of the first of them that is refused
 unfoldable pub each_behind : {A : Type 0} → (List ℕ → Result A WordRefusal) → ℕ → List (List ℕ) → Result (List A) ScriptRefusal
 each_behind line_of n [] = Ok []
 each_behind line_of n (line ∷ lines) = do

@@ -19,7 +19,7 @@ line [] = codes "\n"
 line (word ∷ []) = word ++ codes "\n"
 line (word ∷ next ∷ words) = word ++ (codes " " ++ line (next ∷ words))
 
--- the words with a space behind each
+-- the words with a space after each
 abbrev pub spaced : List (List ℕ) → List ℕ
 spaced [] = []
 spaced (word ∷ words) = word ++ (codes " " ++ spaced words)
@@ -35,7 +35,7 @@ reference_line r = line
     (codes "ref" ∷ identifier_text r.flight ∷ r.manager ∷ decimal r.version ∷ state_text r.state ∷ ovn_text r.ovn
     ∷ signed_decimal r.start ∷ signed_decimal r.end ∷ r.base ∷ identifier_text r.ticket ∷ [])
 
--- the same in parts: what stands in front of the OVN of a reference, and behind it
+-- the same in parts: what stands before the OVN of a reference, and after it
 abbrev pub reference_front : Reference → List ℕ
 reference_front r = spaced (codes "ref" ∷ identifier_text r.flight ∷ r.manager ∷ decimal r.version ∷ state_text r.state ∷ [])
 
@@ -53,7 +53,7 @@ references_text word rs = line (word ∷ decimal (length rs) ∷ []) ++ flat_map
 unfoldable pub subscribers_text : List Subscriber → List ℕ
 subscribers_text ss = line (codes "subscribers" ∷ decimal (length ss) ∷ []) ++ flat_map subscriber_line ss
 
--- the reference, and who is to be told of its change
+-- the reference, and who is to be notified of its change
 unfoldable pub change_text : List ℕ → Reference → List Subscriber → List ℕ
 change_text word r ss = line (word ∷ []) ++ (reference_line r ++ subscribers_text ss)
 
@@ -65,7 +65,7 @@ ticket_line t = line (codes "ticket" ∷ identifier_text t.id ∷ t.manager ∷ 
 abbrev pub removed_ticket_line : Ticket → List ℕ
 removed_ticket_line t = line (codes "tremoved" ∷ identifier_text t.id ∷ [])
 
--- what a key lacks, behind the line of the refusal
+-- what a key lacks, after the line of the refusal
 abbrev pub missing_text : DssRefusal → List ℕ
 missing_text (MissingKey rs) = references_text (codes "missing") rs
 missing_text refusal = []

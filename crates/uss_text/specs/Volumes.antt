@@ -1,8 +1,9 @@
 -- The volumes of a script: `rect X1 Y1 X2 Y2` or `poly N X1 Y1 .. XN YN`, then `LOW HIGH START END`. Numbers are
 -- 1e-7 degrees, millimetres and nanoseconds since 1970. The refusals of the outline, and then of the volume, come
 -- after the last word of the volume. This project's own.
-use Rattle.std.specs.Prelude.{ℕ, take, List, [], ◌∷◌, Bool, not, Result, Ok, Err, ℤ, pos, neg_ℤ, nat_lt, int_lt, int_le, ◌&&◌, length, bytes_eq, codes, if◌then◌else◌}
+use Rattle.std.specs.Prelude.{ℕ, take, List, [], ◌∷◌, Bool, not, Result, Ok, Err, ℤ, nat_lt, int_lt, ◌&&◌, length, bytes_eq, codes, if◌then◌else◌}
 use Rattle.std.specs.List.{list_all}
+use Rattle.uss_shape.specs.Limits.{fewest_outline_vertices, most_outline_vertices}
 use Rattle.uss_shape.specs.declared.Place.{Place}
 use Rattle.uss_shape.specs.Shape.{corners}
 use Rattle.uss_vol4.specs.Volume.{Volume4D}
@@ -43,7 +44,7 @@ vertices_at ws = do
   kind ← word_at ws
   vertices_of kind.value kind.rest
 
--- the refusals of an outline and of a volume, as those of the word behind which they come
+-- the refusals of an outline and of a volume, as those of the word after which they come
 abbrev pub outline_refusal : ShapeRefusal → WordRefusal
 outline_refusal Shape.TooFewVertices = TooFewVertices
 outline_refusal Shape.TooManyVertices = TooManyVertices
@@ -65,8 +66,8 @@ first_refused (test ∷ tests) x = if test.0 then Err test.1 else first_refused 
 -- the refusals of an outline and then of a volume, in their order
 unfoldable pub volume_of : List Place → (low high start end : ℤ) → Result Volume4D WordRefusal
 volume_of places low high start end = first_refused
-    ((nat_lt (length places) 3, TooFewVertices)
-    ∷ (nat_lt 1000 (length places), TooManyVertices)
+    ((nat_lt (length places) fewest_outline_vertices, TooFewVertices)
+    ∷ (nat_lt most_outline_vertices (length places), TooManyVertices)
     ∷ (not (list_all is_in_plane places), OutOfRange)
     ∷ (int_lt high low, LowAboveHigh)
     ∷ (int_lt end start, StartAfterEnd)
@@ -75,7 +76,7 @@ volume_of places low high start end = first_refused
     ∷ [])
     (record { outline = places; low = low; high = high; start = start; end = end })
 
--- the volume of these vertices and of the four numbers behind them
+-- the volume of these vertices and of the four numbers after them
 unfoldable pub volume_behind : List Place → Reader Volume4D
 volume_behind vertices ws = do
   low ← integer_at ws

@@ -7,7 +7,7 @@ use std::marker::Model;
 /// The most bytes of a script: 64 MiB. Its definition is `most_bytes` of `specs/Lines.antt`.
 pub const MOST_BYTES: usize = 67_108_864;
 
-/// The bytes in front of the first separator, and those behind it, where there is one.
+/// The bytes before the first separator, and those after it, where there is one.
 pub fn cut(bytes: &[u8], separator: u8) -> Option<(&[u8], &[u8])>
     ensures { MatchOption result (IsFree separator bytes.now) (λ parts. IsCut separator bytes.now parts.0.now parts.1.now) }
 {

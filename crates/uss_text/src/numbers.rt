@@ -49,7 +49,7 @@ pub fn natural(word: &[u8]) -> Option<u64>
     parsed_natural(word)
 }
 
-/// The word behind a `-` in front, if there is one.
+/// The word after a `-`, if there is one.
 fn without_minus(word: &[u8]) -> &[u8]
     ensures { result.now ≡ spec.without_minus word.now }
 {
@@ -59,7 +59,7 @@ fn without_minus(word: &[u8]) -> &[u8]
     }
 }
 
-/// Whether the word is a number, with or without a `-` in front.
+/// Whether the word is a number, with or without a leading `-`.
 fn is_integer(word: &[u8]) -> bool
     ensures { result ≡ spec.is_integer word.now }
 {
@@ -81,7 +81,7 @@ fn parsed_integer(word: &[u8]) -> Option<i64>
     }
 }
 
-/// The number whose decimal text the word is, with `-` in front of one below 0. For the words of scripts.
+/// The number whose decimal text the word is, with `-` before one below 0. For the words of scripts.
 pub fn integer(word: &[u8]) -> Option<i64>
     ensures value { result ≡ integer_within (spec.integer_of word.now) }
     ensures found { IfSome result (λ z. word.now ≡ signed_decimal z) }

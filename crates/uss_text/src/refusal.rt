@@ -93,7 +93,7 @@ impl WordRefusal {
 }
 
 impl ScriptRefusal {
-    /// The number of the refusal, and 0 for want of memory, which is none.
+    /// The number of the refusal, and 0 for out of memory, which is none.
     pub fn number(&self) -> u16
         ensures { result ≡ spec.number_of self.now }
     {

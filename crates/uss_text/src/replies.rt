@@ -15,7 +15,7 @@ fn write_ovn(ovn: &Option<Ovn>, text: &mut String) -> Result<(), AllocError>
     }
 }
 
-/// Appends what stands in front of the OVN of a reference.
+/// Appends what stands before the OVN of a reference.
 fn write_front(reference: &Reference, text: &mut String) -> Result<(), AllocError>
     ensures { OnOk result (string_bytes text.new ≡ string_bytes text.old ++ spec.reference_front reference.now) }
 {
@@ -26,7 +26,7 @@ fn write_front(reference: &Reference, text: &mut String) -> Result<(), AllocErro
     write!(text, "ref {flight} {manager} {version} {state} ")
 }
 
-/// Appends what stands behind the OVN of a reference.
+/// Appends what stands after the OVN of a reference.
 fn write_back(reference: &Reference, text: &mut String) -> Result<(), AllocError>
     ensures { OnOk result (string_bytes text.new ≡ string_bytes text.old ++ spec.reference_back reference.now) }
 {
@@ -136,7 +136,7 @@ fn write_refused(refusal: &DssRefusal, text: &mut String) -> Result<(), AllocErr
     }
 }
 
-/// Appends the lines that `uss discover` writes of a reply. After want of memory the text may end in a part of
+/// Appends the lines that `uss discover` writes of a reply. After memory ran out the text may end in a part of
 /// them, and is to be dropped.
 #[tactic(auto, unfolding(crate::specs::Replies::reply_text))]
 pub fn write_reply(reply: &DssReply, text: &mut String) -> Result<(), AllocError>

@@ -21,7 +21,7 @@ fn place(words: &mut Words) -> Result<Place, WordRefusal>
 /// The most vertices that are kept of a polygon: one more than an outline may have, so that it is refused.
 const KEPT: usize = 1001;
 
-/// Puts a place behind the first ones, where there is room among them.
+/// Puts a place after the first ones, where there is room among them.
 fn keep(places: &mut Vec<Place>, found: Place) -> Result<(), WordRefusal>
     requires { length places.old.items ≤ KEPT }
     ensures ok { OnOk result (places.new.items ≡ take KEPT (places.old.items ++ found ∷ [])) }
@@ -120,7 +120,7 @@ pub fn volume(alloc: Global, words: &mut Words) -> Result<Volume4, WordRefusal>
     volume_behind(vertices, words)
 }
 
-/// The volume of these vertices and of the four numbers behind them.
+/// The volume of these vertices and of the four numbers after them.
 #[tactic(auto, unfolding(crate::specs::Volumes::volume_behind))]
 fn volume_behind(vertices: Vec<Place>, words: &mut Words) -> Result<Volume4, WordRefusal>
     ensures { Gives result words.new (spec.volume_behind vertices.items words.old) }

@@ -64,7 +64,7 @@ pub enum VolRefusal {
 impl VolRefusal {
     ghost use Rattle.uss_vol4.specs.Refusal.{number_of};
 
-    /// The number under which the refusal is printed: 111 to 114, none for want of memory.
+    /// The number under which the refusal is printed: 111 to 114, none for out of memory.
     pub fn number(&self) -> Option<u16>
         ensures { result ≡ number_of self.now }
     {

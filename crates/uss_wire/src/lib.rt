@@ -1,16 +1,16 @@
-//! Every JSON message that the service reads or writes, for callers, who name this crate alone. A server of the discovery service reads
+//! Every JSON message that a discovery service, a supplier or a client reads or writes, for callers, who name this crate alone. A server of the discovery service reads
 //! the change of a reference, and writes what came of it:
 //!
 //! ```
 //! use uss_wire::{read_put_reference, write_change_answer};
 //!
 //! let ask = read_put_reference(alloc, body, flight, Some(ovn))?;
-//! // ... carried out, it gives the reference as it is recorded, and those that are to be told
+//! // ... carried out, it gives the reference as it is recorded, and those that are to be notified
 //! let bytes = write_change_answer(alloc, &reference, &subscribers)?;
 //! ```
 //!
 //! A reader answers the value that a message stands for, or the first refusal in the order of the format: `WireRefusal`, with the
-//! `Member` that it is about. A writer answers compact text with members ascending by name, and its one error is want of memory. The
+//! `Member` that it is about. A writer answers compact text with members ascending by name, and its one error is out of memory. The
 //! messages with the discovery service stand in `uss_wire_dss`, those between suppliers and with operators in `uss_wire_uss`, what they
 //! are made of in `uss_wire_words`, refusals and instants in `uss_wire_base`.
 #![tactic(auto)]

@@ -11,7 +11,7 @@ use Rattle.uss_wire_base.specs.Instants.{instant_of, year_of, month_of, day_of, 
 
 -- ---- what is read
 
--- a value, and the bytes behind it
+-- a value, and the bytes after it
 pub record Read (A : Type 0) : Type 0 where
   pub value : A
   pub rest : List ℕ
@@ -48,7 +48,7 @@ unfoldable pub decimals_at : Part ℕ
 decimals_at bytes = let count = length (take_while is_ascii_digit bytes) in
     if nat_le 1 count && nat_le count 9 then scaled_at count bytes else Err BadTime
 
--- the decimals behind a point (46), if there is one
+-- the decimals after a point (46), if there is one
 unfoldable pub fraction_at : Part ℕ
 fraction_at [] = Ok (read 0 [])
 fraction_at (c ∷ bytes) = if c == 46 then decimals_at bytes else Ok (read 0 (c ∷ bytes))
@@ -71,7 +71,7 @@ behind_at bytes = do
   seconds ← clock_at bytes
   Ok (read (neg_ℤ (pos seconds.value)) seconds.rest)
 
--- by how many seconds the clock is ahead of UTC: none by `Z` (90) or `z` (122), else behind `+` (43) or `-` (45)
+-- by how many seconds the clock is ahead of UTC: none by `Z` (90) or `z` (122), else after `+` (43) or `-` (45)
 unfoldable pub zone_at : Part ℤ
 zone_at [] = Err BadTime
 zone_at (c ∷ bytes) = if (c == 90) || (c == 122) then Ok (read (pos 0) bytes)

@@ -202,7 +202,7 @@ impl<'a> Rest<'a> {
         }
     }
 
-    /// The decimals behind a point, if there is one.
+    /// The decimals after a point, if there is one.
     #[tactic(auto, unfolding(crate::specs::InstantText::fraction_at))]
     fn fraction(&mut self) -> Result<u32, InstantRefusal>
         ensures value { Takes result self.new (words.fraction_at self.old) }

@@ -71,11 +71,11 @@ pub enum Member {
     Key,
     /// `new_subscription`: a subscription made with a change: not in this profile.
     NewSubscription,
-    /// `subscribers`: those that are to be told of a change.
+    /// `subscribers`: those that are to be notified of a change.
     Subscribers,
-    /// `subscriptions`: the subscriptions by which one is told.
+    /// `subscriptions`: the subscriptions by which one is notified.
     Subscriptions,
-    /// `notification_index`: how often a subscription was told of a change.
+    /// `notification_index`: how often a subscription was notified of a change.
     NotificationIndex,
     /// `area_of_interest`: the area of a query.
     AreaOfInterest,
@@ -240,7 +240,7 @@ fn named(member: Member) -> Option<Member>
 }
 
 impl WireRefusal {
-    /// The number under which the refusal is printed: 101 to 130 and 401 to 406, none for want of memory.
+    /// The number under which the refusal is printed: 101 to 130 and 401 to 406, none for out of memory.
     pub fn number(&self) -> Option<u16>
         ensures { result ≡ spec.number_of self.now }
     {

@@ -1,4 +1,4 @@
--- Lists one behind another, and those that are to be told taken as several.
+-- Lists one after another, and those that are to be notified taken as several.
 use Rattle.std.proofs.Common.{◌≡◌, ℕ, ◌+◌, ◌-◌, true, false, List, [], ◌∷◌, ◌++◌, length, map, Ok, Err, refl, sym, ap, ◌∙◌, append_assoc, append-nil, arith}
 use Rattle.std.specs.Prelude.{Result, nat_le, ◌&&◌}
 use Rattle.std.proofs.lemmas.Bool.{cond-true, cond-false}
@@ -12,9 +12,9 @@ use Rattle.uss_wire_base.specs.declared.refusal.WireRefusal.{WireRefusal}
 use Rattle.uss_wire_base.specs.declared.refusal.WireRefusal.TheVariants.{TooMany}
 use Rattle.uss_wire_base.specs.Reading.{◌>>=◌, object_at, field, list_at, few_items_at, few_at, each}
 use Rattle.uss_wire_words.specs.Texts.{base_at}
-use Rattle.uss_wire_dss.specs.declared.changes.Told.{Told}
+use Rattle.uss_wire_dss.specs.declared.changes.Notified.{Notified}
 use Rattle.uss_wire_dss.specs.declared.changes.Listed.{Listed}
-use Rattle.uss_wire_dss.specs.ChangesAndErrors.{flatten, told_at, told_by, listed_at, owed_by, fit, subscriber_at, at_most_tickets, subscribers_at}
+use Rattle.uss_wire_dss.specs.ChangesAndErrors.{flatten, notified_at, notified_by, listed_at, owed_by, fit, subscriber_at, at_most_tickets, subscribers_at}
 
 -- one more item
 pub owed_more : (lists : List Listed) (one : Listed) → flatten (map owed_by (lists ++ one ∷ [])) ≡ flatten (map owed_by lists) ++ owed_by one
@@ -34,9 +34,9 @@ fit_all room [] = none_fit room
 fit_all room (l ∷ lists) =
     rw (
       length-append (owed_by l) (flatten (map owed_by lists)),
-      length-map l.told (told_by l.base),
-      fit_all (room - length l.told) lists,
-    ) (both_fit (length l.told) (length (flatten (map owed_by lists))) room)
+      length-map l.notified (notified_by l.base),
+      fit_all (room - length l.notified) lists,
+    ) (both_fit (length l.notified) (length (flatten (map owed_by lists))) room)
 
 pub few_fit : (m : Member) (lists : List Listed) → fit most_tickets lists ≡ true → at_most_tickets m (flatten (map owed_by lists)) ≡ Ok (flatten (map owed_by lists))
 few_fit m lists fits = cond-true _ _ _ (sym (fit_all most_tickets lists) ∙ fits)
@@ -51,12 +51,12 @@ three (Ok u) (Err e) c h k = refl
 three (Ok u) (Ok x) (Err e) h k = refl
 three (Ok u) (Ok x) (Ok y) h k = refl
 
-abbrev listed_from : List Told → List ℕ → Listed
-listed_from told base = record { base = base; told = told }
+abbrev listed_from : List Notified → List ℕ → Listed
+listed_from notified base = record { base = base; notified = notified }
 
 one_owed : (place : Member) (d : Data) → subscriber_at place d ≡ (listed_at place d >>= λ l. Ok (owed_by l))
 unfolding subscriber_at listed_at
-one_owed place d = three (object_at place d) (field Member.Subscriptions (list_at told_at) d) (field Member.UssBaseUrl base_at d) listed_from owed_by
+one_owed place d = three (object_at place d) (field Member.Subscriptions (list_at notified_at) d) (field Member.UssBaseUrl base_at d) listed_from owed_by
 
 with_next : (one : Result Listed WireRefusal) (rest : Result (List Listed) WireRefusal) → ((one >>= λ l. Ok (owed_by l)) >>= λ x. (rest >>= λ ls. Ok (map owed_by ls)) >>= λ xs. Ok (x ∷ xs)) ≡ ((one >>= λ l. rest >>= λ ls. Ok (l ∷ ls)) >>= λ ls. Ok (map owed_by ls))
 with_next (Err e) rest = refl

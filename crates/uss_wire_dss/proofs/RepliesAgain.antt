@@ -1,4 +1,4 @@
--- Answers that are written are read again: references, those that are to be told of a change, and errors.
+-- Answers that are written are read again: references, those that are to be notified of a change, and errors.
 use Rattle.std.proofs.Common.{◌≡◌, ◌^◌, ℕ, ◌<◌, ◌≤◌, Bool, true, false, List, [], ◌∷◌, length, Some, None, Ok, Result, refl, sym, ap, ◌∙◌, arith}
 use Rattle.std.specs.Prelude.{Option, map, nat_lt, nat_le, ◌==◌, ◌≢◌, bytes_eq, if◌then◌else◌}
 use Rattle.std.proofs.lemmas.Bool.Decides.{nat_tests}
@@ -15,10 +15,10 @@ use Rattle.uss_wire_base.specs.Writing.{AllOf, list_json}
 use Rattle.uss_wire_base.proofs.Again.{list_again, list_length}
 use Rattle.uss_wire_words.proofs.VolumesAgain.{time_again}
 use Rattle.uss_wire_words.specs.References.{front_at, back_at, answered_reference_at, references_at}
-use Rattle.uss_wire_words.specs.ReferenceWriting.{reference_json, told_json, subscriber_json}
+use Rattle.uss_wire_words.specs.ReferenceWriting.{reference_json, notified_json, subscriber_json}
 use Rattle.uss_wire_words.proofs.ReferencesAgain.{base_again, name_again, ovn_again, identifier_again, state_again}
 use Rattle.uss_wire_dss.specs.declared.errors.ErrorBody.{ErrorBody}
-use Rattle.uss_wire_dss.specs.ChangesAndErrors.{flatten, told_at, subscriber_at, subscribers_at, change_answer_at, error_at}
+use Rattle.uss_wire_dss.specs.ChangesAndErrors.{flatten, notified_at, subscriber_at, subscribers_at, change_answer_at, error_at}
 use Rattle.uss_wire_dss.specs.ReplyWriting.{change_answer_json, error_json, ShowsOvn, IsReadable, IsReadableSubscriber, IsReadableError}
 
 below_true : (n limit : ℕ) → n < limit → nat_lt n limit ≡ true
@@ -72,14 +72,14 @@ unfolding references_at
 references_again client m rs all few =
     rw (list_length reference_json rs, le_true (length rs) most_references few) (list_again reference_json (answered_reference_at client m) (IsReadable client) (reference_again client m) rs all)
 
--- ---- those that are to be told
-told_again : (place : Member) (s : Subscriber) → s.ticket < 2 ^ 128 → told_at place (told_json s) ≡ Ok (record { ticket = s.ticket; index = s.index })
-unfolding told_at told_json name
-told_again place s h = rw (identifier_again _ s.ticket h) refl
+-- ---- those that are to be notified
+notified_again : (place : Member) (s : Subscriber) → s.ticket < 2 ^ 128 → notified_at place (notified_json s) ≡ Ok (record { ticket = s.ticket; index = s.index })
+unfolding notified_at notified_json name
+notified_again place s h = rw (identifier_again _ s.ticket h) refl
 
 subscriber_again : (place : Member) (s : Subscriber) → IsReadableSubscriber s → subscriber_at place (subscriber_json s) ≡ Ok (s ∷ [])
 unfolding subscriber_at subscriber_json name
-subscriber_again place s h = rw (told_again _ s h.ticket, base_again _ s.base h.base) refl
+subscriber_again place s h = rw (notified_again _ s h.ticket, base_again _ s.base h.base) refl
 
 abbrev alone : Subscriber → List Subscriber
 alone s = s ∷ []

@@ -7,17 +7,17 @@ use Rattle.uss_intent.specs.declared.records.Reference.{Reference}
 use Rattle.uss_intent.specs.declared.records.Subscriber.{Subscriber}
 use Rattle.uss_wire_base.specs.Writing.{IsPlain, list_json}
 use Rattle.uss_wire_base.proofs.Again.{list_whole, list_shallow}
-use Rattle.uss_wire_words.specs.ReferenceWriting.{reference_json, subscriber_json, told_json}
+use Rattle.uss_wire_words.specs.ReferenceWriting.{reference_json, subscriber_json, notified_json}
 use Rattle.uss_wire_words.proofs.ReferencesAgain.{reference_whole, reference_shallow}
 use Rattle.uss_wire_dss.specs.declared.errors.ErrorBody.{ErrorBody}
 use Rattle.uss_wire_dss.specs.ReplyWriting.{query_answer_json, get_answer_json, change_answer_json, error_json}
 
 subscriber_whole : (s : Subscriber) → has_float (subscriber_json s) ≡ false
-unfolding subscriber_json told_json
+unfolding subscriber_json notified_json
 subscriber_whole s = refl
 
 subscriber_shallow : (s : Subscriber) → depth (subscriber_json s) ≤ 3
-unfolding subscriber_json told_json
+unfolding subscriber_json notified_json
 subscriber_shallow s = omega arith
 
 pub query_answer_plain : (rs : List Reference) → IsPlain (query_answer_json rs)

@@ -11,49 +11,49 @@ use Rattle.uss_wire_base.specs.declared.refusal.WireRefusal.TheVariants.{TooMany
 use Rattle.uss_wire_base.specs.Reading.{◌>>=◌, Reader, object_at, field, natural_at, natural_below, text_at, list_at, few_at}
 use Rattle.uss_wire_words.specs.Texts.{base_at, identifier_at}
 use Rattle.uss_wire_words.specs.References.{answered_reference_at, references_at}
-use Rattle.uss_wire_dss.specs.declared.changes.Told.{Told}
+use Rattle.uss_wire_dss.specs.declared.changes.Notified.{Notified}
 use Rattle.uss_wire_dss.specs.declared.changes.Listed.{Listed}
 use Rattle.uss_wire_dss.specs.declared.errors.ErrorBody.{ErrorBody}
 
--- the lists, one behind another
+-- the lists, one after another
 abbrev pub flatten : {A : Type 0} → List (List A) → List A
 flatten [] = []
 flatten (xs ∷ lists) = xs ++ flatten lists
 
--- by which subscription one is told
-unfoldable pub told_at : Reader Told
-told_at place d = do
+-- by which subscription one is notified
+unfoldable pub notified_at : Reader Notified
+notified_at place d = do
   _ ← object_at place d
   ticket ← field Member.SubscriptionId identifier_at d
   index ← field Member.NotificationIndex natural_at d
   Ok (record { ticket = ticket; index = index })
 
-abbrev pub told_by : List ℕ → Told → Subscriber
-told_by base t = record { base = base; ticket = t.ticket; index = t.index }
+abbrev pub notified_by : List ℕ → Notified → Subscriber
+notified_by base t = record { base = base; ticket = t.ticket; index = t.index }
 
 -- one with several subscriptions is taken as several, in their order
 unfoldable pub subscriber_at : Reader (List Subscriber)
 subscriber_at place d = do
   _ ← object_at place d
-  told ← field Member.Subscriptions (list_at told_at) d
+  notified ← field Member.Subscriptions (list_at notified_at) d
   base ← field Member.UssBaseUrl base_at d
-  Ok (map (told_by base) told)
+  Ok (map (notified_by base) notified)
 
 -- the same before it is taken as several: the base, and the subscriptions
 unfoldable pub listed_at : Reader Listed
 listed_at place d = do
   _ ← object_at place d
-  told ← field Member.Subscriptions (list_at told_at) d
+  notified ← field Member.Subscriptions (list_at notified_at) d
   base ← field Member.UssBaseUrl base_at d
-  Ok (record { base = base; told = told })
+  Ok (record { base = base; notified = notified })
 
 abbrev pub owed_by : Listed → List Subscriber
-owed_by l = map (told_by l.base) l.told
+owed_by l = map (notified_by l.base) l.notified
 
 -- whether the items have at most so many subscriptions in all
 abbrev pub fit : ℕ → List Listed → Bool
 fit room [] = true
-fit room (l ∷ lists) = nat_le (length l.told) room && fit (room - length l.told) lists
+fit room (l ∷ lists) = nat_le (length l.notified) room && fit (room - length l.notified) lists
 
 abbrev pub at_most_tickets : Member → List Subscriber → Result (List Subscriber) WireRefusal
 at_most_tickets m all = if nat_le (length all) most_tickets then Ok all else Err (TooMany m)
@@ -64,7 +64,7 @@ subscribers_at m d = do
   lists ← few_at most_tickets subscriber_at m d
   at_most_tickets m (flatten lists)
 
--- who is to be told, and the reference as it is recorded
+-- who is to be notified, and the reference as it is recorded
 unfoldable pub change_answer_at : List ℕ → Reader (Reference × List Subscriber)
 change_answer_at client place d = do
   _ ← object_at place d

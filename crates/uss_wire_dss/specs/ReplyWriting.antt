@@ -48,7 +48,7 @@ pub record IsReadable (client : List ℕ) (r : Reference) : Type 0 where
   pub base : IsBase r.base
   pub ticket : r.ticket < 2 ^ 128
 
--- one who is to be told, as a reader can give it
+-- one who is to be notified, as a reader can give it
 pub record IsReadableSubscriber (s : Subscriber) : Type 0 where
   pub base : IsBase s.base
   pub ticket : s.ticket < 2 ^ 128

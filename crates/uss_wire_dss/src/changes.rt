@@ -13,42 +13,42 @@ use uss_wire_base::{
 };
 use uss_wire_words::{answered_reference, base_of, ticket_of};
 
-/// By which subscription one is told of a change, and how often it was.
+/// By which subscription one is notified of a change, and how often it was.
 #[derive(Clone, Copy)]
-struct Told {
+struct Notified {
     ticket: TicketId,
     index: u64,
 }
 
 #[derive(Clone, Copy)]
-struct ToldReader;
+struct NotifiedReader;
 
-impl ReadItem<Told> for ToldReader {
-    ghost use Rattle.uss_wire_dss.specs.ChangesAndErrors.{told_at};
+impl ReadItem<Notified> for NotifiedReader {
+    ghost use Rattle.uss_wire_dss.specs.ChangesAndErrors.{notified_at};
 
-    ghost reads = { λ _. told_at };
+    ghost reads = { λ _. notified_at };
 
-    #[tactic(auto, unfolding(crate::specs::ChangesAndErrors::told_at))]
-    fn read_item(&self, _: Global, place: Member, value: &Value) -> Result<Told, WireRefusal> {
+    #[tactic(auto, unfolding(crate::specs::ChangesAndErrors::notified_at))]
+    fn read_item(&self, _: Global, place: Member, value: &Value) -> Result<Notified, WireRefusal> {
         object(place, value)?;
         let ticket = ticket_of(Member::SubscriptionId, value)?;
         let index = natural_of(Member::NotificationIndex, value)?;
-        Ok(Told { ticket, index })
+        Ok(Notified { ticket, index })
     }
 }
 
-fn told_of(alloc: Global, member: Member, value: &Value) -> Result<Vec<Told>, WireRefusal>
-    ensures { GivesBy (λ v. v.items) result (field member (list_at spec.told_at) (view value.now)) }
+fn notified_of(alloc: Global, member: Member, value: &Value) -> Result<Vec<Notified>, WireRefusal>
+    ensures { GivesBy (λ v. v.items) result (field member (list_at spec.notified_at) (view value.now)) }
 {
     let items = items(member, member_of(member, value)?)?;
-    each(alloc, &ToldReader, member, items)
+    each(alloc, &NotifiedReader, member, items)
 }
 
-/// Where one is told of a change, and by which subscriptions.
+/// Where one is notified of a change, and by which subscriptions.
 #[derive(Drop)]
 struct Listed {
     base: Base,
-    told: Sequence<Told>,
+    notified: Sequence<Notified>,
 }
 
 #[derive(Clone, Copy)]
@@ -67,9 +67,9 @@ impl ReadItem<Listed> for ListedReader {
         value: &Value,
     ) -> Result<Listed, WireRefusal> {
         object(place, value)?;
-        let told = Sequence::from_vec(told_of(alloc, Member::Subscriptions, value)?);
+        let notified = Sequence::from_vec(notified_of(alloc, Member::Subscriptions, value)?);
         let base = base_of(alloc, Member::UssBaseUrl, value)?;
-        Ok(Listed { base, told })
+        Ok(Listed { base, notified })
     }
 }
 
@@ -87,23 +87,23 @@ fn are_few(lists: &[Listed]) -> bool
 {
     let mut room: usize = MOST_TICKETS;
     for one in lists {
-        if one.told.len() > room {
+        if one.notified.len() > room {
             return false;
         }
-        room -= one.told.len();
+        room -= one.notified.len();
     }
     true
 }
 
-/// Puts those of one item behind the others.
+/// Puts those of one item after the others.
 fn append(all: &mut Owed, one: &Listed) -> Result<(), AllocError>
     ensures { OnOk result (all.new ≡ all.old ++ spec.owed_by one.now) }
 {
-    for told in one.told.as_slice() {
+    for notified in one.notified.as_slice() {
         let subscriber = Subscriber {
             base: one.base.clone()?,
-            ticket: told.ticket,
-            index: told.index,
+            ticket: notified.ticket,
+            index: notified.index,
         };
         all.push(subscriber)?;
     }
@@ -170,7 +170,7 @@ fn change_answer(
     Ok((reference, subscribers))
 }
 
-/// The answer to a change of a reference: the reference, and who is to be told, at most `MOST_TICKETS` in all. Another client's OVN is dropped.
+/// The answer to a change of a reference: the reference, and who is to be notified, at most `MOST_TICKETS` in all. Another client's OVN is dropped.
 pub fn read_change_answer(
     alloc: Global,
     bytes: &[u8],

@@ -1,5 +1,5 @@
 //! The messages between a client and the discovery service, after the OpenAPI annex of ASTM F3548-21 in this project's profile: the calls,
-//! and the answers with references or a ticket, to changes with those that are to be told, and errors.
+//! and the answers with references or a ticket, to changes with those that are to be notified, and errors.
 //!
 //! ```
 //! // What a query found is written by the service, and read by the client that asked.

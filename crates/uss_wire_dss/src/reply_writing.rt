@@ -63,7 +63,7 @@ fn change_answer(
     json!(in alloc; {"operational_intent_reference": reference, "subscribers": subscribers})
 }
 
-/// The bytes of a reference as it is recorded, and of those that are to be told, each with one subscription.
+/// The bytes of a reference as it is recorded, and of those that are to be notified, each with one subscription.
 pub fn write_change_answer(
     alloc: Global,
     reference: &Reference,

@@ -16,7 +16,7 @@ use Rattle.uss_wire_base.proofs.Again.{integer_whole, list_whole, list_shallow}
 use Rattle.uss_wire_words.specs.VolumeWriting.{volume_json}
 use Rattle.uss_wire_words.proofs.VolumesAgain.{volume_whole, volume_shallow}
 use Rattle.uss_wire_words.proofs.ReferencesAgain.{reference_whole, reference_shallow}
-use Rattle.uss_wire_uss.specs.Writing.{details_json, intent_json, details_answer_json, told_json, behind_intent, with_intent, notification_json, proposal_json, ask_members, asks_json, positions_json}
+use Rattle.uss_wire_uss.specs.Writing.{details_json, intent_json, details_answer_json, notified_json, behind_intent, with_intent, notification_json, proposal_json, ask_members, asks_json, positions_json}
 
 -- ---- intents
 details_whole : (d : Details) → has_float (details_json d) ≡ false
@@ -41,11 +41,11 @@ details_answer_plain p = record { whole = rw (intent_whole p) refl; shallow = (l
 
 -- ---- notifications
 behind_whole : (n : Note) → members_have_float (behind_intent n) ≡ false
-unfolding told_json
+unfolding notified_json
 behind_whole n = refl
 
 behind_shallow : (n : Note) → members_depth (behind_intent n) ≤ 8
-unfolding told_json
+unfolding notified_json
 behind_shallow n = omega arith
 
 with_whole : (p : Option OperationalIntent) (ms : Members) → members_have_float ms ≡ false → members_have_float (with_intent p ms) ≡ false

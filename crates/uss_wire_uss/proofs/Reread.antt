@@ -32,9 +32,9 @@ use Rattle.uss_wire_words.proofs.VolumesAgain.{volume_again, time_again}
 use Rattle.uss_wire_words.specs.References.{front_at, back_at, intent_reference_at}
 use Rattle.uss_wire_words.specs.ReferenceWriting.{reference_json}
 use Rattle.uss_wire_words.proofs.ReferencesAgain.{base_again, name_again, ovn_again, identifier_again, state_again}
-use Rattle.uss_wire_uss.specs.Intents.{details_at, accepted, timed, intent_of, intent_at, details_answer_at, told_at, notification_at}
+use Rattle.uss_wire_uss.specs.Intents.{details_at, accepted, timed, intent_of, intent_at, details_answer_at, notified_at, notification_at}
 use Rattle.uss_wire_uss.specs.Asks.{proposal_at, put_at, asks_at, positions_at}
-use Rattle.uss_wire_uss.specs.Writing.{details_json, intent_json, details_answer_json, told_json, with_intent, behind_intent, notification_json, proposal_json, ask_members, asks_json, positions_json, ShowsOvn, IsReadable, IsReadableIfAny, IsReadableNote, IsReadableProposal, IsReadableWish, IsReadablePosition}
+use Rattle.uss_wire_uss.specs.Writing.{details_json, intent_json, details_answer_json, notified_json, with_intent, behind_intent, notification_json, proposal_json, ask_members, asks_json, positions_json, ShowsOvn, IsReadable, IsReadableIfAny, IsReadableNote, IsReadableProposal, IsReadableWish, IsReadablePosition}
 
 below_true : (n limit : ℕ) → n < limit → nat_lt n limit ≡ true
 below_true n limit h = grind (arith, nat_tests)
@@ -119,14 +119,14 @@ unfolding details_answer_at details_answer_json name
 details_answer_again p h = intent_again _ p h
 
 -- ---- notifications
-told_again : (place : Member) (ticket index : ℕ) → ticket < 2 ^ 128 → told_at place (told_json ticket index) ≡ Ok (ticket, index)
-unfolding told_at told_json name
-told_again place ticket index h = rw (identifier_again _ ticket h) refl
+notified_again : (place : Member) (ticket index : ℕ) → ticket < 2 ^ 128 → notified_at place (notified_json ticket index) ≡ Ok (ticket, index)
+unfolding notified_at notified_json name
+notified_again place ticket index h = rw (identifier_again _ ticket h) refl
 
 notification_with : (n : Note) (pair : Option OperationalIntent) → IsReadableIfAny pair → IsReadableNote n → notification_at Whole (object (with_intent pair (behind_intent n))) ≡ Ok (record { flight = n.flight; pair = pair; ticket = n.ticket; index = n.index })
 unfolding notification_at name
-notification_with n None readable h = rw (identifier_again _ n.flight h.flight, told_again _ n.ticket n.index h.ticket) refl
-notification_with n (Some p) readable h = rw (identifier_again _ n.flight h.flight, intent_again _ p readable, told_again _ n.ticket n.index h.ticket) refl
+notification_with n None readable h = rw (identifier_again _ n.flight h.flight, notified_again _ n.ticket n.index h.ticket) refl
+notification_with n (Some p) readable h = rw (identifier_again _ n.flight h.flight, intent_again _ p readable, notified_again _ n.ticket n.index h.ticket) refl
 
 pub notification_again : (n : Note) → IsReadableNote n → notification_at Whole (notification_json n) ≡ Ok n
 unfolding notification_json

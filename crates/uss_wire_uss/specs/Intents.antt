@@ -36,7 +36,7 @@ details_at place d = do
 -- the refusals of details, as those of a message
 abbrev pub details_refusal : DetailsRefusal → WireRefusal
 details_refusal Reason.TooManyVolumes = TooManyVolumes
-details_refusal Reason.TooManyVertices = TooManyVerticesTogether
+details_refusal Reason.TooManyVerticesTogether = TooManyVerticesTogether
 details_refusal Reason.OffNominalNotAllowed = OffNominalNotAllowed
 details_refusal Reason.NoVolume = NoVolume
 details_refusal Reason.PriorityRange = PriorityRange
@@ -59,7 +59,7 @@ timed r d = if not (is_least_start r.start (extents_of d)) then Err (WrongKind M
 unfoldable pub intent_of : Reference → Details → Result OperationalIntent WireRefusal
 intent_of r d = details_in r.state d >>= timed r
 
--- an operational intent: a reference that shows its OVN, and its details; what looks at both comes behind them
+-- an operational intent: a reference that shows its OVN, and its details; what looks at both comes after them
 unfoldable pub intent_at : Reader OperationalIntent
 intent_at place d = do
   _ ← object_at place d
@@ -73,9 +73,9 @@ details_answer_at place d = do
   _ ← object_at place d
   field Member.OperationalIntent intent_at d
 
--- by which subscription one is told of a change, and how often it was
-unfoldable pub told_at : Reader (ℕ × ℕ)
-told_at place d = do
+-- by which subscription one is notified of a change, and how often it was
+unfoldable pub notified_at : Reader (ℕ × ℕ)
+notified_at place d = do
   _ ← object_at place d
   ticket ← field Member.SubscriptionId identifier_at d
   index ← field Member.NotificationIndex natural_at d
@@ -87,5 +87,5 @@ notification_at place d = do
   _ ← object_at place d
   flight ← field Member.OperationalIntentId identifier_at d
   pair ← optional Member.OperationalIntent intent_at d
-  told ← field Member.Subscriptions (one_at told_at) d
-  Ok (record { flight = flight; pair = pair; ticket = told.0; index = told.1 })
+  notified ← field Member.Subscriptions (one_at notified_at) d
+  Ok (record { flight = flight; pair = pair; ticket = notified.0; index = notified.1 })

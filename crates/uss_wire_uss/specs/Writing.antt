@@ -29,15 +29,15 @@ intent_json p = object (member (codes "details") (details_json p.details) (membe
 unfoldable pub details_answer_json : OperationalIntent → Data
 details_answer_json p = object (member (codes "operational_intent") (intent_json p) no_members)
 
--- by which subscription one is told, and how often it was
-unfoldable pub told_json : (ticket index : ℕ) → Data
-told_json ticket index =
+-- by which subscription one is notified, and how often it was
+unfoldable pub notified_json : (ticket index : ℕ) → Data
+notified_json ticket index =
     object (member (codes "notification_index") (number (unsigned index)) (member (codes "subscription_id") (identifier_json ticket) no_members))
 
--- the members of a notification behind its intent
+-- the members of a notification after its intent
 abbrev pub behind_intent : Note → Members
 behind_intent n =
-    member (codes "operational_intent_id") (identifier_json n.flight) (member (codes "subscriptions") (array (item (told_json n.ticket n.index) no_items)) no_members)
+    member (codes "operational_intent_id") (identifier_json n.flight) (member (codes "subscriptions") (array (item (notified_json n.ticket n.index) no_items)) no_members)
 
 abbrev pub with_intent : Option OperationalIntent → Members → Members
 with_intent None ms = ms

@@ -59,7 +59,7 @@ fn details_refusal(refusal: DetailsRefusal) -> WireRefusal
 {
     match refusal {
         DetailsRefusal::TooManyVolumes => WireRefusal::TooManyVolumes,
-        DetailsRefusal::TooManyVertices => WireRefusal::TooManyVerticesTogether,
+        DetailsRefusal::TooManyVerticesTogether => WireRefusal::TooManyVerticesTogether,
         DetailsRefusal::OffNominalNotAllowed => WireRefusal::OffNominalNotAllowed,
         DetailsRefusal::NoVolume => WireRefusal::NoVolume,
         DetailsRefusal::PriorityRange => WireRefusal::PriorityRange,

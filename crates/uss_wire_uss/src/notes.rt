@@ -49,9 +49,9 @@ fn optional_intent(
     }
 }
 
-#[tactic(auto, unfolding(crate::specs::Intents::told_at))]
-fn told(place: Member, value: &Value) -> Result<(TicketId, u64), WireRefusal>
-    ensures { Gives result (spec.told_at place (view value.now)) }
+#[tactic(auto, unfolding(crate::specs::Intents::notified_at))]
+fn notified(place: Member, value: &Value) -> Result<(TicketId, u64), WireRefusal>
+    ensures { Gives result (spec.notified_at place (view value.now)) }
 {
     object(place, value)?;
     let ticket = ticket_of(Member::SubscriptionId, value)?;
@@ -60,11 +60,11 @@ fn told(place: Member, value: &Value) -> Result<(TicketId, u64), WireRefusal>
 }
 
 /// The one subscription of a member's list.
-fn told_of(member: Member, value: &Value) -> Result<(TicketId, u64), WireRefusal>
-    ensures { Gives result (field member (one_at spec.told_at) (view value.now)) }
+fn notified_of(member: Member, value: &Value) -> Result<(TicketId, u64), WireRefusal>
+    ensures { Gives result (field member (one_at spec.notified_at) (view value.now)) }
 {
     let items = items(member, member_of(member, value)?)?;
-    told(member, only_item(member, items)?)
+    notified(member, only_item(member, items)?)
 }
 
 #[tactic(auto, unfolding(crate::specs::Intents::notification_at))]
@@ -74,7 +74,7 @@ fn notification(alloc: Global, place: Member, value: &Value) -> Result<Note, Wir
     object(place, value)?;
     let flight = flight_of(Member::OperationalIntentId, value)?;
     let pair = optional_intent(alloc, Member::OperationalIntent, value)?;
-    let (ticket, index) = told_of(Member::Subscriptions, value)?;
+    let (ticket, index) = notified_of(Member::Subscriptions, value)?;
     Ok(Note {
         flight,
         pair,

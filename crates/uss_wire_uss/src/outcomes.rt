@@ -17,7 +17,7 @@ fn outcome_value(alloc: Global, outcome: &Outcome) -> Result<Value, AllocError>
     json!(in alloc; {"outcome": text})
 }
 
-/// The bytes of what came of a request. Want of memory is told by the caller, and not by such a message.
+/// The bytes of what came of a request. That memory ran out is said by the caller, and not by such a message.
 pub fn write_outcome(alloc: Global, outcome: &Outcome) -> Result<Vec<u8>, AllocError>
     requires { outcome.now ≢ Outcome.Memory }
     ensures { IfOk result (λ b. IsTextOf (spec.outcome_json outcome.now) b.items) }

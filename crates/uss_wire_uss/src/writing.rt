@@ -54,9 +54,9 @@ pub fn write_details_answer(alloc: Global, pair: &Pair) -> Result<Vec<u8>, Alloc
     message(alloc, &value)
 }
 
-#[tactic(auto, unfolding(crate::specs::Writing::told_json))]
-fn told(alloc: Global, ticket: TicketId, index: u64) -> Result<Value, AllocError>
-    ensures { IfOk result (λ v. view v ≡ spec.told_json ticket index) }
+#[tactic(auto, unfolding(crate::specs::Writing::notified_json))]
+fn notified(alloc: Global, ticket: TicketId, index: u64) -> Result<Value, AllocError>
+    ensures { IfOk result (λ v. view v ≡ spec.notified_json ticket index) }
 {
     let ticket = ticket_text(alloc, ticket)?;
     json!(in alloc; {"notification_index": index, "subscription_id": ticket})
@@ -69,8 +69,8 @@ fn changed(alloc: Global, note: &Note, pair: &Pair) -> Result<Value, AllocError>
 {
     let intent = intent(alloc, pair)?;
     let flight = flight_text(alloc, note.flight)?;
-    let told = told(alloc, note.ticket, note.index)?;
-    json!(in alloc; {"operational_intent": intent, "operational_intent_id": flight, "subscriptions": [told]})
+    let notified = notified(alloc, note.ticket, note.index)?;
+    json!(in alloc; {"operational_intent": intent, "operational_intent_id": flight, "subscriptions": [notified]})
 }
 
 #[tactic(auto, unfolding(crate::specs::Writing::notification_json))]
@@ -79,8 +79,8 @@ fn ended(alloc: Global, note: &Note) -> Result<Value, AllocError>
     ensures { IfOk result (λ v. view v ≡ spec.notification_json note.now) }
 {
     let flight = flight_text(alloc, note.flight)?;
-    let told = told(alloc, note.ticket, note.index)?;
-    json!(in alloc; {"operational_intent_id": flight, "subscriptions": [told]})
+    let notified = notified(alloc, note.ticket, note.index)?;
+    json!(in alloc; {"operational_intent_id": flight, "subscriptions": [notified]})
 }
 
 fn notification(alloc: Global, note: &Note) -> Result<Value, AllocError>
@@ -92,7 +92,7 @@ fn notification(alloc: Global, note: &Note) -> Result<Value, AllocError>
     }
 }
 
-/// The bytes of what another supplier is told of a change.
+/// The bytes of a notification of a change for another supplier.
 pub fn write_notification(alloc: Global, note: &Note) -> Result<Vec<u8>, AllocError>
     ensures { IfOk result (λ b. IsTextOf (spec.notification_json note.now) b.items) }
 {

@@ -1,4 +1,4 @@
--- How references, tickets and those that are to be told are written: members ascending by name, and what this profile fixes.
+-- How references, tickets and those that are to be notified are written: members ascending by name, and what this profile fixes.
 use Rattle.std.specs.Prelude.{ℕ, List, true, false, Option, Some, None, codes}
 use Rattle.serde_json.specs.Data.{Data, object, member, Members, no_members, number, unsigned, string, boolean, array, no_items, item}
 use Rattle.uss_intent.specs.declared.records.Reference.{Reference}
@@ -11,7 +11,7 @@ use Rattle.uss_wire_words.specs.VolumeWriting.{time_json}
 abbrev pub identifier_json : ℕ → Data
 identifier_json id = string (identifier_text id)
 
--- the members of a reference behind its OVN
+-- the members of a reference after its OVN
 abbrev pub behind_ovn : Reference → Members
 behind_ovn r =
     member (codes "state") (string (state_text r.state)) (member (codes "subscription_id") (identifier_json r.ticket)
@@ -26,12 +26,12 @@ with_ovn (Some ovn) ms = member (codes "ovn") (string ovn) ms
 unfoldable pub reference_json : Reference → Data
 reference_json r = object (member (codes "id") (identifier_json r.flight) (member (codes "manager") (string r.manager) (with_ovn r.ovn (behind_ovn r))))
 
--- one who is to be told, by one subscription
-unfoldable pub told_json : Subscriber → Data
-told_json s = object (member (codes "notification_index") (number (unsigned s.index)) (member (codes "subscription_id") (identifier_json s.ticket) no_members))
+-- one who is to be notified, by one subscription
+unfoldable pub notified_json : Subscriber → Data
+notified_json s = object (member (codes "notification_index") (number (unsigned s.index)) (member (codes "subscription_id") (identifier_json s.ticket) no_members))
 
 unfoldable pub subscriber_json : Subscriber → Data
-subscriber_json s = object (member (codes "subscriptions") (array (item (told_json s) no_items)) (member (codes "uss_base_url") (string s.base) no_members))
+subscriber_json s = object (member (codes "subscriptions") (array (item (notified_json s) no_items)) (member (codes "uss_base_url") (string s.base) no_members))
 
 -- a ticket, with the times of its area
 unfoldable pub ticket_json : Ticket → Data

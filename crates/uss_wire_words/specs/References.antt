@@ -32,7 +32,7 @@ front_at place d = do
   state ← field Member.State state_at d
   Ok (record { flight = flight; manager = manager; version = version; state = state })
 
--- the members behind the OVN
+-- the members after the OVN
 unfoldable pub back_at : Data → Result Back WireRefusal
 back_at d = do
   start ← field Member.TimeStart time_at d

@@ -1,7 +1,8 @@
 -- How a volume in four dimensions is read: the Volume4D of the OpenAPI annex of ASTM F3548-21 with a polygon, in whole numbers of
 -- 1e-7 degrees and mm. That profile, the limits and the order of the refusals are this project's own.
-use Rattle.std.specs.Prelude.{ℕ, List, Bool, not, Option, Some, None, Result, Ok, Err, ℤ, nat_lt, int_lt, ◌&&◌, length, codes, if◌then◌else◌}
+use Rattle.std.specs.Prelude.{ℕ, List, not, Option, Some, None, Result, Ok, Err, ℤ, nat_lt, int_lt, ◌&&◌, length, codes, if◌then◌else◌}
 use Rattle.std.specs.List.{position_from}
+use Rattle.uss_shape.specs.Limits.{fewest_outline_vertices, most_outline_vertices}
 use Rattle.uss_shape.specs.declared.Place.{Place}
 use Rattle.uss_wire_words.specs.declared.volumes.Space.{Space}
 use Rattle.uss_shape.specs.declared.ShapeRefusal.{ShapeRefusal}
@@ -46,10 +47,10 @@ unless_out places (Some index) = Err (OutOfRange index)
 
 -- 3 to 1,000 places on the earth
 unfoldable pub outline_of : List Place → Result (List Place) WireRefusal
-outline_of places = if nat_lt (length places) 3 then Err TooFewVertices
-    else (if nat_lt 1000 (length places) then Err TooManyVertices else unless_out places (position_from (λ p. not (is_in_plane p)) 0 places))
+outline_of places = if nat_lt (length places) fewest_outline_vertices then Err TooFewVertices
+    else (if nat_lt most_outline_vertices (length places) then Err TooManyVertices else unless_out places (position_from (λ p. not (is_in_plane p)) 0 places))
 
--- a polygon: its vertices; the refusals of the outline come behind them
+-- a polygon: its vertices; the refusals of the outline come after them
 unfoldable pub polygon_at : Reader (List Place)
 polygon_at place d = do
   _ ← object_at place d
@@ -92,7 +93,7 @@ volume_of space start end = if int_lt space.high space.low then Err LowAboveHigh
     else (if not (is_instant start && is_instant end) then Err TimeRange
     else Ok (record { outline = space.outline; low = space.low; high = space.high; start = start; end = end }))))
 
--- a volume in four dimensions; its refusals come behind its members
+-- a volume in four dimensions; its refusals come after its members
 unfoldable pub volume_at : Reader Volume4D
 volume_at place d = do
   _ ← object_at place d

@@ -1,6 +1,6 @@
 //! What JSON messages are made of. Volumes: the Volume4D of the OpenAPI annex of ASTM F3548-21 with a polygon, in whole numbers of 1e-7
 //! degrees and mm. Operational intents: their names, base URLs, OVNs, states and identifiers, their references, tickets, and those that
-//! are to be told of a change.
+//! are to be notified of a change.
 #![tactic(auto)]
 
 mod reference_writing;

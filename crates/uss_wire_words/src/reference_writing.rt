@@ -105,9 +105,9 @@ impl WriteItem<Reference> for ReferenceWriter {
     }
 }
 
-#[tactic(auto, unfolding(crate::specs::ReferenceWriting::told_json))]
-fn told(alloc: Global, subscriber: &Subscriber) -> Result<Value, AllocError>
-    ensures { IfOk result (λ v. view v ≡ spec.told_json subscriber.now) }
+#[tactic(auto, unfolding(crate::specs::ReferenceWriting::notified_json))]
+fn notified(alloc: Global, subscriber: &Subscriber) -> Result<Value, AllocError>
+    ensures { IfOk result (λ v. view v ≡ spec.notified_json subscriber.now) }
 {
     let ticket = ticket_text(alloc, subscriber.ticket)?;
     json!(in alloc; {"notification_index": subscriber.index, "subscription_id": ticket})
@@ -117,11 +117,11 @@ fn told(alloc: Global, subscriber: &Subscriber) -> Result<Value, AllocError>
 fn subscriber_value(alloc: Global, subscriber: &Subscriber) -> Result<Value, AllocError>
     ensures { IfOk result (λ v. view v ≡ spec.subscriber_json subscriber.now) }
 {
-    let told = told(alloc, subscriber)?;
-    json!(in alloc; {"subscriptions": [told], "uss_base_url": subscriber.base.as_str()})
+    let notified = notified(alloc, subscriber)?;
+    json!(in alloc; {"subscriptions": [notified], "uss_base_url": subscriber.base.as_str()})
 }
 
-/// How those that are to be told are written, each with one subscription.
+/// How those that are to be notified are written, each with one subscription.
 #[derive(Clone, Copy)]
 pub struct SubscriberWriter;
 

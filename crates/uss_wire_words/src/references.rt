@@ -30,7 +30,7 @@ struct Front {
     state: State,
 }
 
-/// The members of a reference behind its OVN.
+/// The members of a reference after its OVN.
 #[derive(Drop)]
 struct Back {
     start: i64,

@@ -1,4 +1,4 @@
-use Rattle.uss_book_rules.proofs.Tested.{open_from, open_true, open_ticket_from, open_ticket_true, try_from, try_true, hold_from, hold_true, decide_from, decide_true, retire_from, retire_true, tell_from, tell_true}
+use Rattle.uss_book_rules.proofs.Tested.{open_from, open_true, open_ticket_from, open_ticket_true, try_from, try_true, hold_from, hold_true, decide_from, decide_true, retire_from, retire_true, send_from, send_true}
 use Rattle.uss_book_rules.proofs.Ended.{end_from, end_true}
 use Rattle.uss_book_rules.proofs.AnyEntry.{due_from, due_true}
 use Rattle.uss_book_rules.proofs.law.tests_are_exact.Goals as goal
@@ -22,7 +22,7 @@ pub returns-clause-retirement : goal.returns-clause-retirement
 returns-clause-retirement c = λ es job. (retire_from es job, retire_true es job)
 
 pub returns-clause-answer : goal.returns-clause-answer
-returns-clause-answer c = λ es job place. (tell_from es job place, tell_true es job place)
+returns-clause-answer c = λ es job index. (send_from es job index, send_true es job index)
 
 pub returns-clause-end_of : goal.returns-clause-end_of
 returns-clause-end_of c = λ es job end. (end_from es job end, end_true es job end)

@@ -13,13 +13,13 @@ pub invariant_of-self-2 : goal.invariant_of-self-2
 invariant_of-self-2 c =
     rw (c.set_indices.ensures, c.deref.ensures.value, c.remove.ensures, c.in_ok-push.ensures.ok, c.number.ensures)
     (subst (λ (x : DssReply × Service). IsOrderly x.1)
-    (sym (removed_is _ c.args.self.now c.args.client.now c.in-Some.r.now c.in_ok-reply.reply c.in_ok-told.told.items
-    c.self.view_is (subst IsOrderly c.self.view_is c.self.invariant) c.in_ok-reply.ensures.cases c.in_ok-told.ensures))
+    (sym (removed_is _ c.args.self.now c.args.client.now c.in-Some.r.now c.in_ok-reply.reply c.in_ok-notified.notified.items
+    c.self.view_is (subst IsOrderly c.self.view_is c.self.invariant) c.in_ok-reply.ensures.cases c.in_ok-notified.ensures))
     (removed _ c.args.self.now c.args.client.now c.args.flight c.args.ovn.now c.in-Some.r.now c.self.view_is c.self.invariant c.requires c.in-Some.ensures))
 
 pub returns-clause-done : goal.returns-clause-done
 returns-clause-done c =
     rw (c.set_indices.ensures, c.deref.ensures.value, c.remove.ensures, c.in_ok-push.ensures.ok, c.number.ensures, c.from_vec.ensures)
     (removed_done c.args.self.now c.args.client.now c.args.flight c.in-Some.r.now _ c.in-Some.ensures
-    (removed_is _ c.args.self.now c.args.client.now c.in-Some.r.now c.in_ok-reply.reply c.in_ok-told.told.items
-    c.self.view_is (subst IsOrderly c.self.view_is c.self.invariant) c.in_ok-reply.ensures.cases c.in_ok-told.ensures))
+    (removed_is _ c.args.self.now c.args.client.now c.in-Some.r.now c.in_ok-reply.reply c.in_ok-notified.notified.items
+    c.self.view_is (subst IsOrderly c.self.view_is c.self.invariant) c.in_ok-reply.ensures.cases c.in_ok-notified.ensures))

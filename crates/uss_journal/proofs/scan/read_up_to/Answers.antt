@@ -10,7 +10,7 @@ written_whole : (n : ℕ) (new old : List ℕ) → length new ≡ n → length o
 written_whole n new old size was =
     ap (λ (l : List ℕ). take n (new ++ l)) (drop_all (length new) old (omega arith)) ∙ ap (λ (l : List ℕ). take n l) (append-nil new) ∙ take_all n new (omega arith)
 
--- the front of what a Vec holds after it was made longer
+-- the start of what a Vec holds after it was made longer
 grown_front : (old now more : List ℕ) (have n : ℕ) → have ≡ length old → have ≤ n → now ≡ take n old ++ more → take have now ≡ old
 grown_front old now more have n had le is =
     ap (λ (l : List ℕ). take have l) (is ∙ ap (λ (l : List ℕ). l ++ more) (take_all n old (omega arith))) ∙ take_at old more have (sym had)

@@ -1,4 +1,4 @@
-use Rattle.uss_law_exact.proofs.WorkedScripts.{one_alone, two_together, found_again_is_typed, cancelled_early_is_typed, watched_is_typed, ended_is_typed, failed_is_typed, stopped_twice_is_typed, answered_twice_is_typed, both_put_is_typed, given_up_is_typed, told_is_typed, both_asked_is_typed, whole_life_is_typed}
+use Rattle.uss_law_exact.proofs.WorkedScripts.{one_alone, two_together, found_again_is_typed, cancelled_early_is_typed, watched_is_typed, ended_is_typed, failed_is_typed, stopped_twice_is_typed, answered_twice_is_typed, both_put_is_typed, given_up_is_typed, notifying_is_typed, both_asked_is_typed, whole_life_is_typed}
 use Rattle.uss_law_exact.proofs.worked.worked_scripts_are_typed.Goals as goal
 
 pub returns : goal.returns
@@ -15,7 +15,7 @@ returns c =
       answered_twice = answered_twice_is_typed;
       both_put = both_put_is_typed;
       given_up = given_up_is_typed;
-      told = told_is_typed;
+      notifying = notifying_is_typed;
       both_asked = both_asked_is_typed;
       whole_life = whole_life_is_typed;
     }

@@ -1,5 +1,5 @@
 use Rattle.std.proofs.Common.{◌≤◌, ◌≡◌, length, arith}
-use Rattle.uss_law_book.specs.Readings.{owed_of}
+use Rattle.uss_law_book.specs.Contents.{owed_of}
 use Rattle.uss_law_book.specs.Legal.{IsLegal}
 use Rattle.uss_book_index.proofs.Unanswered.{owed_few}
 use Rattle.uss_book_index.proofs.entries.Entries.owed_count.Goals as goal

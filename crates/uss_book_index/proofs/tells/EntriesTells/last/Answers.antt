@@ -1,14 +1,13 @@
-use Rattle.std.proofs.Common.{◌∙◌, ap, is_some, slice_get, List}
+use Rattle.std.proofs.Common.{◌∙◌, ap, List, slice_get}
 use Rattle.std.specs.Option.{option_and_then}
 use Rattle.uss_event.specs.declared.entries.Entry.{Entry}
-use Rattle.uss_law_book.specs.Readings.{last_of}
+use Rattle.uss_law_book.specs.Contents.{last_of}
 use Rattle.uss_book_rules.specs.Speaks.{opening_in}
-use Rattle.uss_book_index.proofs.Told.{copied_some, found_in}
+use Rattle.uss_book_index.proofs.Sent.{said_in}
 use Rattle.uss_book_index.proofs.tells.EntriesTells.last.Goals as goal
 
-pub returns-clause-found : goal.returns-clause-found
-returns-clause-found c =
-    let f = c.kept_of.ensures in
+pub returns : goal.returns
+returns c =
     let es = c.args.self.now.entries in
-    copied_some c.at.result ∙ ap is_some c.at.ensures ∙ ap (λ (l : List Entry). is_some (option_and_then (slice_get l) c.kept_of.result.last)) c.as_slice.ensures
-    ∙ found_in es opening_in c.kept_of.result.last (last_of c.args.flight es) f.last f.last_found
+    c.opening_in.ensures ∙ ap (option_and_then opening_in) (c.at.ensures ∙ ap (λ (l : List Entry). option_and_then (slice_get l) c.kept_of.result.last) c.as_slice.ensures)
+    ∙ said_in es opening_in c.kept_of.result.last (last_of c.args.flight es) c.kept_of.ensures.last

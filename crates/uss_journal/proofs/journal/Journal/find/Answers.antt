@@ -11,8 +11,8 @@ invariant_of-self g c =
     let old = c.self.inside in
     let e = c.in-Ok.ensures in (
       sound_mounted D.reads D.may_leave D.is_honest old.disk c.load.new.disk old.known.bytes.items old.known.gates.items old.known.last old.spent c.self.invariant.0 e.honest.0
-          (g.met.D.Disk.as_it_reads old.disk) e.file e.kept (λ honest. (e.settled honest).durable),
-      ready D.reads D.may_leave D.is_honest old.disk c.load.new.disk c.in-Ok.found e.honest.0 e.gated e.whole e.found e.kept e.settled,
+          (g.met.D.Disk.as_it_reads old.disk) e.file e.kept (λ honest. (e.synced honest).durable),
+      ready D.reads D.may_leave D.is_honest old.disk c.load.new.disk c.in-Ok.found e.honest.0 e.gated e.whole e.found e.kept e.synced,
     )
 
 pub invariant_of-self-else-eq : goal.invariant_of-self-else-eq

@@ -1,6 +1,0 @@
-use Rattle.std.proofs.Common.{◌∙◌}
-use Rattle.uss_book_rules.proofs.Direct.{told_by_any}
-use Rattle.uss_book_index.proofs.tells.EntriesTells.is_told.Goals as goal
-
-pub returns : goal.returns
-returns c = c.has.ensures ∙ told_by_any c.args.job c.args.place c.args.self.now.entries

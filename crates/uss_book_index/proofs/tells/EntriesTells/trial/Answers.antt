@@ -1,0 +1,8 @@
+use Rattle.std.proofs.Common.{◌∙◌, ap, sym}
+use Rattle.std.specs.Option.{option_and_then}
+use Rattle.uss_book_rules.specs.Speaks.{trial_in}
+use Rattle.uss_book_rules.proofs.Direct.{trial_by_find}
+use Rattle.uss_book_index.proofs.tells.EntriesTells.trial.Goals as goal
+
+pub returns : goal.returns
+returns c = c.trial_in.ensures ∙ ap (option_and_then trial_in) c.first.ensures ∙ sym (trial_by_find c.args.tag c.args.self.now.entries)

@@ -1,8 +1,0 @@
--- The subscribers of the tickets so far.
-use Rattle.std.proofs.Common.{◌≡◌, ◌+◌, ◌++◌, take, filter, map}
-use Rattle.uss_law_dss.specs.Step.{is_told}
-use Rattle.uss_dss.proofs.changes.told.Given as goal
-
-abbrev pub invariant-loop-t : goal.invariant-loop-t
-invariant-loop-t l =
-    l.told.items ≡ map (λ t. record { base = t.base; ticket = t.id; index = t.index + 1 }) (filter (is_told l.client (l.old ++ l.new)) (map (λ t. t.now) (take l.t-index l.tickets)))

@@ -1,5 +1,0 @@
-use Rattle.uss_law_dss.proofs.WhoIsTold.{landing_tells, removal_tells, other_calls_keep}
-use Rattle.uss_law_dss.proofs.who_is_told.Goals as goal
-
-pub returns : goal.returns
-returns c = record { landing = landing_tells; removal = removal_tells; other_calls = other_calls_keep }
