@@ -1,6 +1,6 @@
 ghost use Rattle.std.specs.Prelude.{◌≡◌, ◌↔◌, IsTrue, ◌<◌, ◌++◌, ◌∷◌, [], length, slice_get, vec_len, vec_capacity, option_copied, OnOk};
 ghost use Rattle.uss_law_book.specs.Coding.{HasCoding, journal_length};
-ghost use Rattle.uss_law_book.specs.Legal.{MayFollow};
+ghost use Rattle.uss_law_book.specs.Legal.{IsLegal, MayFollow};
 ghost use Rattle.uss_law_book.specs.Reserve.{need, settled};
 ghost use Rattle.uss_book_index.specs.Known.{IsReadyFor};
 
@@ -80,6 +80,14 @@ impl Entries {
         ensures { result.now ≡ self.now.entries }
     {
         self.entries.as_slice()
+    }
+
+    /// The entries are a legal book. This does nothing: its contract tells it to whoever has the entries.
+    pub fn are_legal(&self)
+        ensures { IsLegal self.now.entries }
+    {
+        // What is true of the list is brought to the proof.
+        let _ = count(&self.entries);
     }
 
     /// The entries themselves, without the index.

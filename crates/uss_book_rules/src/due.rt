@@ -55,9 +55,9 @@ pub fn may_hold<T: Tells>(book: &T, job: u64, tag: u64) -> bool
     is_open(book, job) && book.owns(job, tag)
 }
 
-/// What is recorded of the flight: nothing once it has ended.
+/// What is recorded of the flight: nothing once it has ended. Takes no memory.
 #[tactic(auto, unfolding(uss_law_book::specs::Contents::holding))]
-pub(crate) fn holding<T: Tells>(book: &T, flight: u64) -> Option<&Holding>
+pub fn holding<T: Tells>(book: &T, flight: u64) -> Option<&Holding>
     ensures { option_copied result ≡ holding flight (T.entries book.now) }
 {
     if book.has_ended(flight) {

@@ -19,7 +19,7 @@ mod opens;
 mod tells;
 
 pub use due::{
-    is_closed, is_open, is_ticket_gone, may_decide, may_hold, may_open_ticket, may_retire,
+    holding, is_closed, is_open, is_ticket_gone, may_decide, may_hold, may_open_ticket, may_retire,
     may_send, may_try, owed_by,
 };
 pub use ends::may_end;
