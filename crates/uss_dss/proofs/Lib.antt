@@ -2,3 +2,9 @@ pub mod Places
 pub mod Orderly
 pub mod KeyLemmas
 pub mod Maps
+pub mod Standing
+pub mod Found
+pub mod Those
+pub mod Meeting
+pub mod Changed
+pub mod Keeping

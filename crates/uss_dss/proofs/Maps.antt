@@ -68,7 +68,7 @@ put_value r [] j = refl
 put_value r (e ∷ es) j = put_value_at r e es (nat_cmp r.reference.flight e.0) refl j.0 (put_value r es j.1)
 
 -- a new ticket in its place by identifier
-found_later : {X : Type 0} (p : X → Bool) (x : X) (xs : List X) (b : Bool) → p x ≡ b → find p (x ∷ xs) ≡ None → (b ≡ false) × (find p xs ≡ None)
+pub found_later : {X : Type 0} (p : X → Bool) (x : X) (xs : List X) (b : Bool) → p x ≡ b → find p (x ∷ xs) ≡ None → (b ≡ false) × (find p xs ≡ None)
 found_later p x xs true is none = absurd (let no : Some x ≡ None = rw is at none in cc)
 found_later p x xs false is none = (refl, rw is at none)
 
@@ -89,7 +89,7 @@ put_new t (e ∷ es) j none =
 none_above_at : {X : Type 0} (number : X → ℕ) (n k : ℕ) (x : X) (xs : List X) → k ≡ n → n < number x → filter (λ y. not (number y == k)) xs ≡ xs → filter (λ y. not (number y == k)) (x ∷ xs) ≡ x ∷ xs
 none_above_at number n k x xs h less rest = let other : (number x == k) ≡ false = grind (arith, nat_tests) in rw other (ap (λ ys. x ∷ ys) rest)
 
-none_above : {X : Type 0} (number : X → ℕ) (n k : ℕ) (xs : List X) → k ≡ n → AllAbove number n xs → filter (λ x. not (number x == k)) xs ≡ xs
+pub none_above : {X : Type 0} (number : X → ℕ) (n k : ℕ) (xs : List X) → k ≡ n → AllAbove number n xs → filter (λ x. not (number x == k)) xs ≡ xs
 none_above number n k [] h above = refl
 none_above number n k (x ∷ xs) h above = none_above_at number n k x xs h above.0 (none_above number n k xs h above.1)
 

@@ -1,11 +1,11 @@
 //! What each call does, once it isn't refused.
 
-ghost use Rattle.std.specs.Prelude.{◌≡◌, IfOk, OnErr, None};
+ghost use Rattle.std.specs.Prelude.{◌≡◌, ◌+◌, length, IfOk, OnErr, None};
 ghost use Rattle.uss_law_dss.specs.Refusals.{refusal_of};
 ghost use Rattle.uss_law_dss.specs.Step.{accepted, new_ticket};
 
 use crate::Dss;
-use crate::changes::found;
+use crate::changes::place;
 use crate::shown::shown;
 use std::alloc::AllocError;
 use uss_intent::{
@@ -34,8 +34,7 @@ impl Dss {
     pub(crate) fn query(&self, client: &Name, area: &Volume4) -> Result<DssReply, AllocError>
         ensures { IfOk result (λ reply. (reply, self.now) ≡ accepted self.now client.now (DssAsk.Query area.now)) }
     {
-        let all = self.references.all(self.alloc)?;
-        let found = found(self.alloc, &all, client, area)?;
+        let found = self.found(client, area)?;
         Ok(DssReply::Found(References::from_vec(found)))
     }
 
@@ -57,6 +56,13 @@ impl Dss {
         }
     }
 
+    /// How many tickets were made so far: a number that no ticket has had.
+    fn next_ticket(&self) -> u64
+        ensures { result ≡ length self.now.tickets + length self.now.retired_tickets }
+    {
+        self.tickets.len() as u64 + self.retired_tickets.len() as u64
+    }
+
     pub(crate) fn ticket_put(
         &mut self,
         client: &Name,
@@ -70,7 +76,8 @@ impl Dss {
     {
         let new = new_ticket(client, ticket, area, base)?;
         let reply = new.clone()?;
-        self.tickets.put(new)?;
+        let number = self.next_ticket();
+        place(&mut self.tickets, &mut self.ticket_boxes, number, new)?;
         Ok(DssReply::TicketMade(reply))
     }
 
@@ -90,6 +97,7 @@ impl Dss {
         };
         self.retired_tickets.push(reply.id.number())?;
         self.tickets.remove(reply.id);
+        self.ticket_boxes.leave(reply.id.number());
         Ok(DssReply::TicketRemoved(reply))
     }
 
@@ -110,6 +118,7 @@ impl Dss {
         let notified = self.notified_of_end(client, &r.extents)?;
         self.retired_flights.push(reply.flight.number())?;
         self.references.remove(reply.flight);
+        self.reference_boxes.leave(reply.flight.number());
         self.tickets.set_indices(&notified);
         Ok(DssReply::Removed {
             reference: reply,

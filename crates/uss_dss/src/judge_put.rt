@@ -56,6 +56,20 @@ impl Dss {
         None
     }
 
+    /// The relevant references that the key lacks, as they are shown to the client.
+    fn missing(
+        &self,
+        client: &Name,
+        flight: FlightId,
+        extents: &Volumes,
+        key: &Ovns,
+    ) -> Result<Vec<Reference>, AllocError>
+        ensures { IfOk result (λ v. v.items ≡ shown_all client.now (filter (is_missing flight extents.now key.now) self.now.references)) }
+    {
+        let met = self.references_met(extents.as_slice())?;
+        missing(self.alloc, &met, client, flight, extents, key)
+    }
+
     #[tactic(auto, unfolding(crate::specs::Parts::key_refusal))]
     fn judge_key(
         &self,
@@ -70,8 +84,7 @@ impl Dss {
         if !state.is_strategic() {
             return Ok(None);
         }
-        let all = self.references.all(self.alloc)?;
-        let missing = missing(self.alloc, &all, client, flight, extents, key)?;
+        let missing = self.missing(client, flight, extents, key)?;
         Ok(of_missing(missing))
     }
 

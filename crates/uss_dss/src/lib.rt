@@ -16,23 +16,28 @@ ghost use Rattle.uss_intent.specs.Numbers.{is_one_of};
 ghost use Rattle.uss_law_dss.specs.Service.{empty, recorded_of};
 ghost use Rattle.uss_law_dss.specs.Refusals.{refusal_of};
 ghost use Rattle.uss_law_dss.specs.Step.{service_step};
+ghost use Rattle.uss_dss.specs.Grid.{HasReferences};
 
 mod actions;
 mod changes;
 mod judge;
 mod judge_put;
 mod key;
+mod located;
+mod near;
 mod put;
 mod records;
 mod retired;
 mod shown;
 mod tickets;
 
+use crate::located::Located;
 use crate::records::Records;
 use crate::retired::Retired;
 use crate::tickets::Tickets;
 use std::alloc::{AllocError, Global};
 use std::marker::Model;
+use uss_index::Grid;
 use uss_intent::{
     DssAsk, DssRefusal, DssReply, FlightId, Landings, Name, Recorded, Reference, TicketId, Volumes,
 };
@@ -43,7 +48,11 @@ use uss_intent::{
 pub struct Dss {
     alloc: Global,
     references: Records,
+    /// The boxes of the references' extents, by the number of the flight's last landing.
+    reference_boxes: Located,
     tickets: Tickets,
+    /// The boxes of the tickets' areas, by the number of tickets that were made before.
+    ticket_boxes: Located,
     retired_flights: Retired,
     retired_tickets: Retired,
     landings: Landings,
@@ -51,13 +60,13 @@ pub struct Dss {
 
 impl Model for Dss {
     ghost use Rattle.uss_law_dss.specs.Service.{Service};
-    ghost use Rattle.uss_law_dss.specs.Orderly.{IsOrderly};
+    ghost use Rattle.uss_dss.specs.Kept.{IsKept};
 
     ghost Value = { Service };
 
     ghost view = { λ d. record { references = d.references; tickets = d.tickets; retired_flights = d.retired_flights; retired_tickets = d.retired_tickets; landings = d.landings } };
 
-    ghost invariant = { λ d. IsOrderly (record { references = d.references; tickets = d.tickets; retired_flights = d.retired_flights; retired_tickets = d.retired_tickets; landings = d.landings }) };
+    ghost invariant = { λ d. IsKept (record { references = d.references; tickets = d.tickets; retired_flights = d.retired_flights; retired_tickets = d.retired_tickets; landings = d.landings }) d.reference_boxes d.ticket_boxes };
 }
 
 impl Dss {
@@ -68,7 +77,9 @@ impl Dss {
         Dss {
             alloc,
             references: Records::new(alloc),
+            reference_boxes: Located::new(alloc),
             tickets: Tickets::new(alloc),
+            ticket_boxes: Located::new(alloc),
             retired_flights: Retired::new(alloc),
             retired_tickets: Retired::new(alloc),
             landings: Landings::new(alloc),
@@ -114,6 +125,14 @@ impl Dss {
         ensures { result.now ≡ self.now.landings }
     {
         &self.landings
+    }
+
+    /// The boxes of the recorded references: of each the bounding box of its extents, under the number of its flight's last landing, counted
+    /// from 1. Takes no memory.
+    pub fn grid(&self) -> &Grid
+        ensures { HasReferences self.now result.now }
+    {
+        &self.reference_boxes.boxes
     }
 
     fn recorded(&self, flight: FlightId) -> Option<&Recorded>

@@ -116,8 +116,8 @@ impl Dss {
         ensures { IfOk result (λ notified. notified.items ≡ subscribers client.now (old_extents (recorded_of flight self.now) ++ extents.now) self.now.tickets) }
     {
         let old = self.old_extents(flight);
-        let all = self.tickets.all(self.alloc)?;
-        notified(self.alloc, client, old, extents.as_slice(), &all)
+        let met = self.tickets_met(old, extents.as_slice())?;
+        notified(self.alloc, client, old, extents.as_slice(), &met)
     }
 
     /// Who is notified of the end of a reference with these extents.
@@ -128,8 +128,8 @@ impl Dss {
     ) -> Result<Vec<Subscriber>, AllocError>
         ensures { IfOk result (λ notified. notified.items ≡ subscribers client.now extents.now self.now.tickets) }
     {
-        let all = self.tickets.all(self.alloc)?;
-        notified(self.alloc, client, &[], extents.as_slice(), &all)
+        let met = self.tickets_met(&[], extents.as_slice())?;
+        notified(self.alloc, client, &[], extents.as_slice(), &met)
     }
 
     /// Records the landing. The caller has found that the Put isn't refused.
@@ -153,7 +153,13 @@ impl Dss {
         let landing = self.landing(client, flight, ovn, base, ticket)?;
         let notified = self.notified_of_change(client, flight, extents)?;
         let reply = recorded.reference.clone()?;
-        record(&mut self.references, &mut self.landings, recorded, landing)?;
+        record(
+            &mut self.references,
+            &mut self.reference_boxes,
+            &mut self.landings,
+            recorded,
+            landing,
+        )?;
         self.tickets.set_indices(&notified);
         Ok(DssReply::Landed {
             reference: reply,

@@ -1,12 +1,15 @@
 //! The recorded references, in an ordered map by flight.
 
-ghost use Rattle.std.specs.Prelude.{◌≡◌, ◌==◌, [], List, find, length, map, slice_get, option_copied, IfOk, OnOk, OnErr};
+ghost use Rattle.std.specs.Prelude.{◌≡◌, ◌==◌, ◌++◌, [], List, filter, find, length, map, slice_get, option_copied, IfOk, OnOk, OnErr};
+ghost use Rattle.std.specs.BTreeSet.{contains};
+ghost use Rattle.std.specs.Option.{option_to_list};
+ghost use Rattle.std.specs.Ordering.{nat_cmp};
 ghost use Rattle.uss_law_dss.specs.Orderly.{Ascend, flight_recorded};
 ghost use Rattle.uss_law_dss.specs.Refusals.{is_cited};
 ghost use Rattle.uss_law_dss.specs.Step.{put_recorded, without_flight};
 
 use std::alloc::{AllocError, Global};
-use std::collections::BTreeMap;
+use std::collections::{BTreeMap, BTreeSet};
 use std::marker::Model;
 use uss_intent::{FlightId, Recorded, TicketId};
 
@@ -30,7 +33,8 @@ impl Model for Records {
     ghost invariant = { λ s. AreBy flight_recorded s.by_flight.entries };
 }
 
-fn key_of(r: &Recorded) -> u128
+/// The number of the reference's flight.
+pub(crate) fn key_of(r: &Recorded) -> u128
     ensures { result ≡ flight_recorded r.now }
 {
     r.reference.flight.number()
@@ -66,11 +70,31 @@ impl Records {
         self.by_flight.values().nth(n)
     }
 
-    /// All references, ascending by flight.
-    pub(crate) fn all(&self, alloc: Global) -> Result<Vec<&Recorded>, AllocError>
-        ensures { IfOk result (λ v. map (λ r. r.now) v.items ≡ self.now) }
+    /// Adds the flight's reference, where it is there.
+    fn add<'a>(&'a self, flight: &u128, found: &mut Vec<&'a Recorded>) -> Result<(), AllocError>
+        ensures { OnOk result (map (λ r. r.now) found.new.items ≡ map (λ r. r.now) found.old.items ++ option_to_list (find (λ r. r.reference.flight == flight.now) self.now)) }
     {
-        self.by_flight.values().collect(alloc)
+        match self.by_flight.get(flight) {
+            Some(r) => found.push(r)?,
+            None => {}
+        }
+        Ok(())
+    }
+
+    /// The references of these flights, ascending by flight, of those that are there. Each flight is looked up.
+    pub(crate) fn those(
+        &self,
+        alloc: Global,
+        flights: &BTreeSet<u128>,
+    ) -> Result<Vec<&Recorded>, AllocError>
+        requires { Ascend flight_recorded self.now }
+        ensures { IfOk result (λ v. map (λ r. r.now) v.items ≡ filter (λ r. contains nat_cmp flights.now r.reference.flight) self.now) }
+    {
+        let mut found = Vec::new(alloc);
+        for flight in flights {
+            self.add(flight, &mut found)?;
+        }
+        Ok(found)
     }
 
     /// Whether a reference cites the ticket.

@@ -1,6 +1,6 @@
 //! The identifiers that were removed.
 
-ghost use Rattle.std.specs.Prelude.{◌≡◌, ◌++◌, [], ◌∷◌, OnOk, OnErr};
+ghost use Rattle.std.specs.Prelude.{◌≡◌, ◌++◌, ◌<◌, ◌^◌, [], ◌∷◌, length, OnOk, OnErr};
 ghost use Rattle.uss_intent.specs.Numbers.{is_one_of};
 
 use std::alloc::{AllocError, Global};
@@ -38,6 +38,14 @@ impl Retired {
             known: BTreeSet::new(alloc),
             order: Vec::new(alloc),
         }
+    }
+
+    /// How many were removed.
+    pub(crate) fn len(&self) -> usize
+        ensures value { result ≡ length self.now }
+        ensures small { result < 2 ^ 63 }
+    {
+        self.order.len()
     }
 
     /// Whether the identifier was removed, in the logarithm of how many were.

@@ -1,12 +1,15 @@
 //! The tickets, in an ordered map by identifier.
 
-ghost use Rattle.std.specs.Prelude.{◌≡◌, ◌==◌, [], List, None, find, length, map, option_copied, IfOk, OnOk, OnErr};
+ghost use Rattle.std.specs.Prelude.{◌≡◌, ◌==◌, ◌++◌, [], List, None, filter, find, length, map, option_copied, IfOk, OnOk, OnErr};
+ghost use Rattle.std.specs.BTreeSet.{contains};
+ghost use Rattle.std.specs.Option.{option_to_list};
+ghost use Rattle.std.specs.Ordering.{nat_cmp};
 ghost use Rattle.uss_law_dss.specs.Orderly.{Ascend, id_of};
 ghost use Rattle.uss_law_dss.specs.Step.{put_ticket, without_ticket};
 ghost use Rattle.uss_dss.specs.Effects.{with_index, with_indices};
 
 use std::alloc::{AllocError, Global};
-use std::collections::BTreeMap;
+use std::collections::{BTreeMap, BTreeSet};
 use std::marker::Model;
 use uss_intent::{Subscriber, Ticket, TicketId};
 
@@ -53,11 +56,31 @@ impl Tickets {
         self.by_id.get(&id.number())
     }
 
-    /// All tickets, ascending by identifier.
-    pub(crate) fn all(&self, alloc: Global) -> Result<Vec<&Ticket>, AllocError>
-        ensures { IfOk result (λ v. map (λ t. t.now) v.items ≡ self.now) }
+    /// Adds the ticket with this identifier, where it is there.
+    fn add<'a>(&'a self, id: &u128, found: &mut Vec<&'a Ticket>) -> Result<(), AllocError>
+        ensures { OnOk result (map (λ t. t.now) found.new.items ≡ map (λ t. t.now) found.old.items ++ option_to_list (find (λ t. t.id == id.now) self.now)) }
     {
-        self.by_id.values().collect(alloc)
+        match self.by_id.get(id) {
+            Some(t) => found.push(t)?,
+            None => {}
+        }
+        Ok(())
+    }
+
+    /// The tickets with these identifiers, ascending by identifier, of those that are there. Each identifier is looked up.
+    pub(crate) fn those(
+        &self,
+        alloc: Global,
+        ids: &BTreeSet<u128>,
+    ) -> Result<Vec<&Ticket>, AllocError>
+        requires { Ascend id_of self.now }
+        ensures { IfOk result (λ v. map (λ t. t.now) v.items ≡ filter (λ t. contains nat_cmp ids.now t.id) self.now) }
+    {
+        let mut found = Vec::new(alloc);
+        for id in ids {
+            self.add(id, &mut found)?;
+        }
+        Ok(found)
     }
 
     /// Puts a new ticket into its place by identifier. Running out of memory changes nothing.

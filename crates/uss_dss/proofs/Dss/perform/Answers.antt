@@ -15,5 +15,5 @@ put-requires-clause-last c =
 pub put-requires-clause-orderly : goal.put-requires-clause-orderly
 put-requires-clause-orderly c =
     accepted_orderly c.args.self.now c.args.client.now (Put c.in-Put.flight c.in-Put.ovn c.in-Put.extents c.in-Put.key c.in-Put.state c.in-Put.base c.in-Put.ticket)
-    (subst IsOrderly c.self.view_is c.self.invariant)
+    (subst IsOrderly c.self.view_is c.self.invariant.orderly)
     (subst (λ (a : DssAsk). refusal_of c.args.self.now c.args.client.now a ≡ None) c.in-Put.is c.requires)

@@ -1,0 +1,12 @@
+-- What is there is found by its key.
+use Rattle.std.proofs.Common.{◌∙◌}
+use Rattle.uss_law_dss.specs.Orderly.{id_of}
+use Rattle.uss_dss.proofs.Maps.{found_by}
+use Rattle.uss_dss.proofs.Those.{pushed, not_pushed}
+use Rattle.uss_dss.proofs.tickets.Tickets.add.Goals as goal
+
+pub returns-in_ok-push-in-Some : goal.returns-in_ok-push-in-Some
+returns-in_ok-push-in-Some c = rw (← c.self.view_is) (pushed _ _ c.in-Some.t _ c.in_ok-push-in-Some.ensures.items (c.in-Some.ensures.value ∙ found_by id_of c.args.id.now _ c.self.invariant))
+
+pub returns-in-None : goal.returns-in-None
+returns-in-None c = rw (← c.self.view_is) (not_pushed _ _ (c.in-None.ensures.value ∙ found_by id_of c.args.id.now _ c.self.invariant))
